@@ -1,0 +1,2 @@
+-- What is proved of the text's definitions.
+pub mod Examples

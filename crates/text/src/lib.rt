@@ -1,0 +1,1 @@
+// What Rust's str, char and from_str_radix gave.

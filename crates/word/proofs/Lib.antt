@@ -1,0 +1,2 @@
+-- What is proved of the words' definitions.
+pub mod Examples

@@ -1,0 +1,3 @@
+-- Words of 32 bits.
+pub mod Word
+pub mod Examples

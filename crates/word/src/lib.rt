@@ -1,0 +1,1 @@
+// What Rust's i32 and u32 gave.
