@@ -52,7 +52,6 @@ module _ (r₁ r₂ : Room) (w : Wider r₁ r₂) where
   evaluated-larger mul m = inr refl
   evaluated-larger add m = inr refl
   evaluated-larger sub m = inr refl
-  evaluated-larger div m = inr refl
   evaluated-larger lt m = inr refl
   evaluated-larger le m = inr refl
   evaluated-larger eq m = inr refl
@@ -61,15 +60,18 @@ module _ (r₁ r₂ : Room) (w : Wider r₁ r₂) where
   evaluated-larger and m = inr refl
   evaluated-larger or m = inr refl
   evaluated-larger xor m = inr refl
-  evaluated-larger count-ones m = inr refl
-  evaluated-larger leading-zeros m = inr refl
-  evaluated-larger trailing-zeros m = inr refl
   evaluated-larger rotate-left m = inr refl
   evaluated-larger rotate-right m = inr refl
   evaluated-larger shift-left m = inr refl
   evaluated-larger shift-right m = inr refl
+  evaluated-larger count-ones m = inr refl
+  evaluated-larger leading-zeros m = inr refl
+  evaluated-larger trailing-zeros m = inr refl
   evaluated-larger copy m = inr refl
   evaluated-larger drop m = inr refl
+  evaluated-larger div m = inr refl
+  evaluated-larger read m = inr refl
+  evaluated-larger write m = inr refl
   evaluated-larger jump m = inr refl
   evaluated-larger jump-if m = inr refl
   evaluated-larger call m = entered-larger m called
@@ -77,8 +79,6 @@ module _ (r₁ r₂ : Room) (w : Wider r₁ r₂) where
   evaluated-larger return m = inr refl
   evaluated-larger assert m = inr refl
   evaluated-larger yield m = inr refl
-  evaluated-larger read m = inr refl
-  evaluated-larger write m = inr refl
 
   outcome-larger : (f : Fetched) (m : Store) → Full (outcome r₁ f m) ⊎ (outcome r₁ f m ≡ outcome r₂ f m)
   unfolding outcome

@@ -1,10 +1,10 @@
 -- What each of the 30 words does to the store. The crate `word` says what they make of words.
 use Prim.Native.Nat.{ℕ, zero, suc}
-use mathlib.Core.Bool.{cond, _&&_}
+use mathlib.Core.Bool.{cond}
 use mathlib.Core.List.{List, [], _∷_}
-use lib.Dec.{ltb, eqb}
+use lib.Dec.{ltb}
 use lib.ListN.{length, getD, set}
-use Rattle.word.specs.Word.{wrappingMul, wrappingAdd, wrappingSub, quotient, remainder, less, atMost, equal, greater, atLeast, bitwiseAnd, bitwiseOr, bitwiseXor, countOnes, countLeadingZeros, countTrailingZeros, rotateLeft, rotateRight, shiftLeft, shiftRight}
+use Rattle.word.specs.Word.{wrappingMul, wrappingAdd, wrappingSub, Division, byZero, overflow, parts, divide, less, atMost, equal, greater, atLeast, bitwiseAnd, bitwiseOr, bitwiseXor, countOnes, countLeadingZeros, countTrailingZeros, rotateLeft, rotateRight, shiftLeft, shiftRight}
 use Rattle.stack_assembly.specs.Answer.{AssertionFailed, DivisionByZero, IntegerOverflow, InvalidAddress, InvalidOperandStackIndex, Return, Yield}
 use Rattle.stack_assembly.specs.Words.{Word, mul, add, sub, div, lt, le, eq, gt, ge, and, or, xor, count-ones, leading-zeros, trailing-zeros, rotate-left, rotate-right, shift-left, shift-right, copy, drop, jump, jump-if, call, call-either, return, assert, yield, read, write}
 use Rattle.stack_assembly.specs.Machine.{Store, Room, Outcome, continues, raises, refuses, withNext, withOperands, withCalls, withMemory, push, pop}
@@ -17,12 +17,11 @@ unary f m = pop m (λ a m₁. continues (push (f a) m₁))
 unfoldable pub binary : (ℕ → ℕ → ℕ) → Store → Outcome
 binary f m = pop m (λ b m₁. pop m₁ (λ a m₂. continues (push (f a b) m₂)))
 
--- `/`: effect 2 where b is zero, effect 3 for -2147483648 by -1, else the quotient and, on top, the remainder.
-unfoldable pub divided : (a b : ℕ) → Store → Outcome
-divided a b m =
-    cond (eqb b 0) (raises DivisionByZero m)
-    (cond (eqb a 2147483648 && eqb b 4294967295) (raises IntegerOverflow m)
-    (continues (push (remainder a b) (push (quotient a b) m))))
+-- `/`: effect 2 by zero, effect 3 where the quotient is no word, else the quotient and, on top, the remainder.
+unfoldable pub divided : Division → Store → Outcome
+divided byZero m = raises DivisionByZero m
+divided overflow m = raises IntegerOverflow m
+divided (parts q r) m = continues (push r (push q m))
 
 -- A list without its element at an index.
 unfoldable pub without : (index : ℕ) → List ℕ → List ℕ
@@ -79,7 +78,6 @@ unfoldable pub evaluated : Room → Word → Store → Outcome
 evaluated room mul m = binary wrappingMul m
 evaluated room add m = binary wrappingAdd m
 evaluated room sub m = binary wrappingSub m
-evaluated room div m = pop m (λ b m₁. pop m₁ (λ a m₂. divided a b m₂))
 evaluated room lt m = binary less m
 evaluated room le m = binary atMost m
 evaluated room eq m = binary equal m
@@ -88,15 +86,18 @@ evaluated room ge m = binary atLeast m
 evaluated room and m = binary bitwiseAnd m
 evaluated room or m = binary bitwiseOr m
 evaluated room xor m = binary bitwiseXor m
-evaluated room count-ones m = unary countOnes m
-evaluated room leading-zeros m = unary countLeadingZeros m
-evaluated room trailing-zeros m = unary countTrailingZeros m
 evaluated room rotate-left m = binary rotateLeft m
 evaluated room rotate-right m = binary rotateRight m
 evaluated room shift-left m = binary shiftLeft m
 evaluated room shift-right m = binary shiftRight m
+evaluated room count-ones m = unary countOnes m
+evaluated room leading-zeros m = unary countLeadingZeros m
+evaluated room trailing-zeros m = unary countTrailingZeros m
 evaluated room copy m = pop m copied
 evaluated room drop m = pop m dropped
+evaluated room div m = pop m (λ b m₁. pop m₁ (λ a m₂. divided (divide a b) m₂))
+evaluated room read m = pop m readAt
+evaluated room write m = pop m (λ w m₁. pop m₁ (λ a m₂. writtenAt a w m₂))
 evaluated room jump m = pop m jumped
 evaluated room jump-if m = pop m (λ i m₁. pop m₁ (λ condition m₂. jumpedIf condition i m₂))
 evaluated room call m = entered room m called
@@ -104,5 +105,3 @@ evaluated room call-either m = entered room m calledEither
 evaluated room return m = returned (m .calls) m
 evaluated room assert m = pop m asserted
 evaluated room yield m = raises Yield m
-evaluated room read m = pop m readAt
-evaluated room write m = pop m (λ w m₁. pop m₁ (λ a m₂. writtenAt a w m₂))

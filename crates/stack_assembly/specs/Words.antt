@@ -6,17 +6,15 @@ use mathlib.Core.List.{List, [], _∷_}
 use mathlib.Core.Option.{Option, none, some}
 use Rattle.text.specs.Names.{bytes, sameBytes}
 
--- The words, grouped as document 01 lists them.
+-- The words, grouped by what they do: two operands to one, one to one, on the stack, memory, jumps, calls, and those that end.
 pub data Word : Type 0 where
-  mul add sub div : Word
-  lt le eq gt ge : Word
-  and or xor : Word
+  mul add sub lt le eq gt ge and or xor rotate-left rotate-right shift-left shift-right : Word
   count-ones leading-zeros trailing-zeros : Word
-  rotate-left rotate-right shift-left shift-right : Word
-  copy drop : Word
-  jump jump-if call call-either return : Word
-  assert yield : Word
+  copy drop div : Word
   read write : Word
+  jump jump-if : Word
+  call call-either return : Word
+  assert yield : Word
 
 -- A row of the table: a word under its name.
 pub record Row : Type 0 where
@@ -31,7 +29,6 @@ words =
     row "*" mul
     ∷ row "+" add
     ∷ row "-" sub
-    ∷ row "/" div
     ∷ row "<" lt
     ∷ row "<=" le
     ∷ row "=" eq
@@ -40,15 +37,18 @@ words =
     ∷ row "and" and
     ∷ row "or" or
     ∷ row "xor" xor
-    ∷ row "count_ones" count-ones
-    ∷ row "leading_zeros" leading-zeros
-    ∷ row "trailing_zeros" trailing-zeros
     ∷ row "rotate_left" rotate-left
     ∷ row "rotate_right" rotate-right
     ∷ row "shift_left" shift-left
     ∷ row "shift_right" shift-right
+    ∷ row "count_ones" count-ones
+    ∷ row "leading_zeros" leading-zeros
+    ∷ row "trailing_zeros" trailing-zeros
     ∷ row "copy" copy
     ∷ row "drop" drop
+    ∷ row "/" div
+    ∷ row "read" read
+    ∷ row "write" write
     ∷ row "jump" jump
     ∷ row "jump_if" jump-if
     ∷ row "call" call
@@ -56,8 +56,6 @@ words =
     ∷ row "return" return
     ∷ row "assert" assert
     ∷ row "yield" yield
-    ∷ row "read" read
-    ∷ row "write" write
     ∷ []
 
 -- The word under a name, if there is one.

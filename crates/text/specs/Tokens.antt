@@ -35,8 +35,8 @@ ended initial at c later = later
 ended comment at c later = later
 ended (token start) at c later = cond (white c) (record { start = start; end = at } ∷ later) later
 
--- The token that the text's end ends.
-abbrev pub endedBy : State → (length : ℕ) → List Token
+-- The token that the text's end ends, or the first ill-formed sequence.
+abbrev pub endedBy : State → (offset : ℕ) → List Token
 endedBy initial n = []
 endedBy comment n = []
 endedBy (token start) n = record { start = start; end = n } ∷ []
@@ -44,7 +44,7 @@ endedBy (token start) n = record { start = start; end = n } ∷ []
 -- The tokens of the characters from a state on.
 unfoldable pub tokensFrom : State → Chars → List Token
 tokensFrom s (end length) = endedBy s length
-tokensFrom s (ill at) = []
+tokensFrom s (ill at) = endedBy s at
 tokensFrom s (char at c rest) = ended s at c (tokensFrom (next s at c) rest)
 
 -- The tokens of a text.

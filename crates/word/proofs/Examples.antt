@@ -1,11 +1,11 @@
 -- The worked examples hold, by computation.
 use mathlib.Core.Path.{refl}
 use lib.Count.{onesIn, leadingZeros, trailingZeros}
-use Rattle.word.specs.Word.{wrappingMul, wrappingAdd, wrappingSub, quotient, remainder, less, atMost, equal, greater, atLeast, bitwiseAnd, bitwiseOr, bitwiseXor, countOnes, countLeadingZeros, countTrailingZeros, rotateLeft, rotateRight, shiftLeft, shiftRight}
+use Rattle.word.specs.Word.{wrappingMul, wrappingAdd, wrappingSub, quotient, remainder, divide, less, atMost, equal, greater, atLeast, bitwiseAnd, bitwiseOr, bitwiseXor, countOnes, countLeadingZeros, countTrailingZeros, rotateLeft, rotateRight, shiftLeft, shiftRight}
 use Rattle.word.specs.Examples.{Examples}
 
 pub examples : Examples
-unfolding onesIn leadingZeros trailingZeros wrappingMul wrappingAdd wrappingSub quotient remainder less atMost equal greater atLeast bitwiseAnd bitwiseOr bitwiseXor countOnes countLeadingZeros countTrailingZeros rotateLeft rotateRight shiftLeft shiftRight
+unfolding onesIn leadingZeros trailingZeros wrappingMul wrappingAdd wrappingSub quotient remainder divide less atMost equal greater atLeast bitwiseAnd bitwiseOr bitwiseXor countOnes countLeadingZeros countTrailingZeros rotateLeft rotateRight shiftLeft shiftRight
 examples =
     record {
       product = refl;
@@ -13,6 +13,7 @@ examples =
       difference = refl;
       quotients = refl;
       remainders = refl;
+      divisions = refl;
       orders-less = refl;
       orders-at-most = refl;
       orders-equal = refl;

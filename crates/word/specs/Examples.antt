@@ -2,7 +2,7 @@
 use Prim.Native.Nat.{ℕ, _-_, _^_}
 use mathlib.Core.List.{List, [], _∷_, map}
 use mathlib.Core.Path.{_≡_}
-use Rattle.word.specs.Word.{wrappingMul, wrappingAdd, wrappingSub, quotient, remainder, less, atMost, equal, greater, atLeast, bitwiseAnd, bitwiseOr, bitwiseXor, countOnes, countLeadingZeros, countTrailingZeros, rotateLeft, rotateRight, shiftLeft, shiftRight}
+use Rattle.word.specs.Word.{wrappingMul, wrappingAdd, wrappingSub, quotient, remainder, byZero, overflow, parts, divide, less, atMost, equal, greater, atLeast, bitwiseAnd, bitwiseOr, bitwiseXor, countOnes, countLeadingZeros, countTrailingZeros, rotateLeft, rotateRight, shiftLeft, shiftRight}
 
 -- The word that reads as -n.
 abbrev pub minus : ℕ → ℕ
@@ -35,6 +35,7 @@ pub record Examples : Type 0 where
   -- toward zero, and the remainder with a's sign
   pub quotients : each quotient (7 with 2 ∷ minus 7 with 2 ∷ 7 with minus 2 ∷ minus 7 with minus 2 ∷ least with 1 ∷ least with least ∷ []) ≡ 3 ∷ minus 3 ∷ minus 3 ∷ 3 ∷ least ∷ 1 ∷ []
   pub remainders : each remainder (7 with 2 ∷ minus 7 with 2 ∷ 7 with minus 2 ∷ minus 7 with minus 2 ∷ least with 3 ∷ 6 with minus 2 ∷ []) ≡ 1 ∷ minus 1 ∷ 1 ∷ minus 1 ∷ minus 2 ∷ 0 ∷ []
+  pub divisions : divide 7 0 ∷ divide least (minus 1) ∷ divide least 1 ∷ divide (minus 7) 2 ∷ [] ≡ byZero ∷ overflow ∷ parts least 0 ∷ parts (minus 3) (minus 1) ∷ []
   -- signed orders
   pub orders-less : each less (minus 1 with 0 ∷ 0 with minus 1 ∷ least with most ∷ 2 with 2 ∷ minus 2 with minus 1 ∷ []) ≡ 1 ∷ 0 ∷ 1 ∷ 0 ∷ 1 ∷ []
   pub orders-at-most : each atMost (minus 1 with 0 ∷ 0 with minus 1 ∷ least with most ∷ 2 with 2 ∷ minus 2 with minus 1 ∷ []) ≡ 1 ∷ 0 ∷ 1 ∷ 1 ∷ 1 ∷ []

@@ -1,6 +1,6 @@
 -- What each operator makes of words, as Rust's i32 and u32 do. A word is a number below 2 ^ 32; a and b are the operands, b the one on top.
 use Prim.Native.Nat.{ℕ, _+_, _-_, _*_, _/_, _%_, _^_}
-use mathlib.Core.Bool.{Bool, true, false}
+use mathlib.Core.Bool.{Bool, true, false, cond, _&&_}
 use lib.Bits.{bitAnd, bitOr, bitXor}
 use lib.Count.{onesIn, leadingZeros, trailingZeros}
 use lib.Dec.{eqb}
@@ -37,6 +37,15 @@ quotient a b = unsigned (quotZ (signed a) (signed b))
 
 unfoldable pub remainder : ℕ → ℕ → ℕ
 remainder a b = unsigned (remZ (signed a) (signed b))
+
+-- What `/` makes of two words: nothing by zero, nothing of -2147483648 by -1, else the quotient and the remainder.
+pub data Division : Type 0 where
+  byZero : Division
+  overflow : Division
+  parts : (quotient remainder : ℕ) → Division
+
+unfoldable pub divide : ℕ → ℕ → Division
+divide a b = cond (eqb b 0) byZero (cond (eqb a 2147483648 && eqb b 4294967295) overflow (parts (quotient a b) (remainder a b)))
 
 -- A comparison gives 1 or 0.
 abbrev pub truth : Bool → ℕ
