@@ -1,11 +1,11 @@
 -- The worked examples hold, by computation.
 use mathlib.Core.Path.{refl}
 use lib.Count.{onesIn, leadingZeros, trailingZeros}
-use Rattle.word.specs.Word.{wrappingMul, wrappingAdd, wrappingSub, quotient, remainder, divide, less, atMost, equal, greater, atLeast, bitwiseAnd, bitwiseOr, bitwiseXor, countOnes, countLeadingZeros, countTrailingZeros, rotateLeft, rotateRight, shiftLeft, shiftRight}
+use Rattle.word.specs.Word.{wrappingMul, wrappingSub, quotient, remainder, divide, less, atMost, equal, greater, atLeast, rotateLeft, rotateRight, shiftRight}
 use Rattle.word.specs.Examples.{Examples}
 
 pub examples : Examples
-unfolding onesIn leadingZeros trailingZeros wrappingMul wrappingAdd wrappingSub quotient remainder divide less atMost equal greater atLeast bitwiseAnd bitwiseOr bitwiseXor countOnes countLeadingZeros countTrailingZeros rotateLeft rotateRight shiftLeft shiftRight
+unfolding onesIn leadingZeros trailingZeros wrappingMul wrappingSub quotient remainder divide less atMost equal greater atLeast rotateLeft rotateRight shiftRight
 examples =
     record {
       product = refl;

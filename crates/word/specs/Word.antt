@@ -25,7 +25,7 @@ unsigned z = ofZ w32 z
 unfoldable pub wrappingMul : ℕ → ℕ → ℕ
 wrappingMul a b = wrap (a * b)
 
-unfoldable pub wrappingAdd : ℕ → ℕ → ℕ
+abbrev pub wrappingAdd : ℕ → ℕ → ℕ
 wrappingAdd a b = wrap (a + b)
 
 unfoldable pub wrappingSub : ℕ → ℕ → ℕ
@@ -69,23 +69,23 @@ unfoldable pub atLeast : ℕ → ℕ → ℕ
 atLeast a b = truth (leZ (signed b) (signed a))
 
 -- Bit by bit.
-unfoldable pub bitwiseAnd : ℕ → ℕ → ℕ
+abbrev pub bitwiseAnd : ℕ → ℕ → ℕ
 bitwiseAnd a b = bitAnd a b
 
-unfoldable pub bitwiseOr : ℕ → ℕ → ℕ
+abbrev pub bitwiseOr : ℕ → ℕ → ℕ
 bitwiseOr a b = bitOr a b
 
-unfoldable pub bitwiseXor : ℕ → ℕ → ℕ
+abbrev pub bitwiseXor : ℕ → ℕ → ℕ
 bitwiseXor a b = bitXor a b
 
 -- Counts of a word's bits: those set, those above the highest set one and those below the lowest; of zero 0, 32 and 32.
-unfoldable pub countOnes : ℕ → ℕ
+abbrev pub countOnes : ℕ → ℕ
 countOnes a = onesIn 32 a
 
-unfoldable pub countLeadingZeros : ℕ → ℕ
+abbrev pub countLeadingZeros : ℕ → ℕ
 countLeadingZeros a = leadingZeros 32 a
 
-unfoldable pub countTrailingZeros : ℕ → ℕ
+abbrev pub countTrailingZeros : ℕ → ℕ
 countTrailingZeros a = trailingZeros 32 a
 
 -- Places to move by: b modulo 32.
@@ -100,7 +100,7 @@ unfoldable pub rotateRight : ℕ → ℕ → ℕ
 rotateRight a b = a / 2 ^ places b + wrap (a * 2 ^ (32 - places b))
 
 -- Zeros enter at the bottom.
-unfoldable pub shiftLeft : ℕ → ℕ → ℕ
+abbrev pub shiftLeft : ℕ → ℕ → ℕ
 shiftLeft a b = wrap (a * 2 ^ places b)
 
 -- Copies of the sign enter at the top.

@@ -1,0 +1,9 @@
+use Rattle.word.proofs.Digits.{ones-within}
+use Rattle.word.proofs.bits.count_ones.Statement.{statement}
+use Rattle.word.proofs.bits.count_ones.Tie as tie
+
+returns : tie.Need-returns
+returns c = ones-within 32 (c .args .a) (c .fits .a .fits)
+
+pub count-ones-spec : {M : Type 1} → statement M
+count-ones-spec = tie.close (tie.spec returns)

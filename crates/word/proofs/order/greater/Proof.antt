@@ -1,0 +1,14 @@
+use borrow.Author.Needs.{needs}
+use Rattle.word.specs.Word.{less, greater}
+use Rattle.word.proofs.order.greater.Statement.{statement}
+use Rattle.word.proofs.order.greater.Tie as tie
+
+less-requires : tie.Need-less-requires
+less-requires c κs = search needs
+
+returns : tie.Need-returns
+unfolding less greater
+returns c = search needs
+
+pub greater-spec : {M : Type 1} → statement M
+greater-spec = tie.close (tie.spec less-requires returns)
