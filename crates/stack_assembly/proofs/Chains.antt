@@ -5,8 +5,8 @@ use mathlib.Core.Bool.{Bool, true, false, _||_}
 use mathlib.Core.List.{List, [], _∷_, _++_}
 use mathlib.Core.Path.{_≡_, refl, sym, ap, _∙_, subst, subst⁻¹}
 use native.Mathlib.Omega.{arith}
-use lib.ListN.{length, replicate}
 use borrow.Author.Tests.{le-ltb, ltb-false}
+use lib.ListN.{length, replicate}
 use Rattle.stack_assembly.specs.Answer.{Answer}
 use Rattle.stack_assembly.specs.Script.{Script, scriptOf, scriptIn, operatorCapacity, labelCapacity, Compilation, compile}
 use Rattle.stack_assembly.specs.Machine.{Machine, Room, Done}

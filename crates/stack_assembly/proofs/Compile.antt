@@ -6,10 +6,10 @@ use mathlib.Core.List.{List, map}
 use mathlib.Core.Option.{Option, none, some}
 use mathlib.Core.Path.{_≡_, refl, sym, _∙_}
 use native.Mathlib.Omega.{arith}
+use borrow.Author.Tests.{le-ltb, ltb-false}
 use lib.Dec.{ltb}
 use lib.ListN.{length, drop}
-use borrow.Author.Tests.{le-ltb, ltb-false}
-use Rattle.text.specs.Utf8.{chars, illFormedAt}
+use Rattle.utf8.specs.Utf8.{chars, illFormedAt}
 use Rattle.stack_assembly.specs.Answer.{isLimit}
 use Rattle.stack_assembly.specs.Script.{operatorWords, labelWords, operatorTable, labelTable, operatorIn, labelIn, operatorCapacity, labelCapacity, recordsIn, scriptOf, scriptIn, CompileAnswer, accepted, rejected, fitted, checked, longest, compileAnswer, written, compile}
 use Rattle.stack_assembly.specs.Evaluator.{Buffers, begun}

@@ -1,12 +1,12 @@
 -- The whole definition opened, for proofs by computation: who names `all` on an `unfolding` line has all of it unfolded.
 use mathlib.Core.List.{flatMap}
 use lib.Count.{onesIn, leadingZeros, trailingZeros}
-use Rattle.text.specs.Utf8.{wellFormed, follow, led, front, charsFrom, chars, illFormedAt}
-use Rattle.text.specs.WhiteSpace.{white}
-use Rattle.text.specs.Tokens.{tokensFrom, tokens}
-use Rattle.text.specs.Numbers.{digitOf, digits, magnitude, positive, negative, i32, u32, i32OrU32}
-use Rattle.text.specs.Kinds.{hexadecimal, kindOf}
-use Rattle.text.specs.Names.{sameBytes}
+use Rattle.utf8.specs.Utf8.{wellFormed, follow, led, front, charsFrom, chars, illFormedAt}
+use Rattle.utf8.specs.WhiteSpace.{white}
+use Rattle.tokens.specs.Tokens.{tokensFrom, tokens}
+use Rattle.kinds.specs.Numbers.{digitOf, digits, magnitude, positive, negative, i32, u32, i32OrU32}
+use Rattle.kinds.specs.Kinds.{hexadecimal, kindOf}
+use Rattle.names.specs.Names.{sameBytes}
 use Rattle.word.specs.Word.{wrappingMul, wrappingSub, quotient, remainder, divide, less, atMost, equal, greater, atLeast, rotateLeft, rotateRight, shiftRight}
 use Rattle.stack_assembly.specs.Answer.{number, isRefusal, isLimit}
 use Rattle.stack_assembly.specs.Script.{operatorsOf, labelsOf, scriptOf, recordsIn, scriptIn, compileAnswer, compile}

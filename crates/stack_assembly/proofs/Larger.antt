@@ -6,9 +6,9 @@ use mathlib.Core.List.{List, _∷_}
 use mathlib.Core.Logic.{_⊎_, inl, inr, ⊎-elim}
 use mathlib.Core.Path.{_≡_, refl, sym, ap, _∙_, subst}
 use native.Mathlib.Omega.{arith}
+use borrow.Author.Tests.{lt-ltb, ltb-true}
 use lib.Dec.{ltb}
 use lib.ListN.{length}
-use borrow.Author.Tests.{lt-ltb, ltb-true}
 use Rattle.stack_assembly.specs.Answer.{isLimit}
 use Rattle.stack_assembly.specs.Script.{Script}
 use Rattle.stack_assembly.specs.Words.{Word, mul, add, sub, div, lt, le, eq, gt, ge, and, or, xor, count-ones, leading-zeros, trailing-zeros, rotate-left, rotate-right, shift-left, shift-right, copy, drop, jump, jump-if, call, call-either, return, assert, yield, read, write}

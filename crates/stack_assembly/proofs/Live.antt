@@ -4,10 +4,10 @@ use mathlib.Core.Bool.{Bool, true, false}
 use mathlib.Core.List.{List, head-eq-of-cons-eq, tail-eq-of-cons-eq}
 use mathlib.Core.Path.{_≡_, refl, sym, ap, _∙_, subst}
 use native.Mathlib.Omega.{arith}
+use borrow.Author.Tests.{ltb-true, ltb-false}
 use lib.Dec.{ltb}
 use lib.ListN.{length, getD, drop}
 use lib.Seq.{getD-drop, ext-getD}
-use borrow.Author.Tests.{ltb-true, ltb-false}
 use Rattle.stack_assembly.specs.Host.{live}
 
 pub live-length : (d : ℕ) (buffer : List ℕ) → length (live d buffer) ≡ d

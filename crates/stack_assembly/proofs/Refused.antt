@@ -5,9 +5,9 @@ use mathlib.Core.Bool.{Bool, true, false, cond}
 use mathlib.Core.List.{List, [], _∷_}
 use mathlib.Core.Path.{_≡_, refl}
 use native.Mathlib.Omega.{arith}
+use borrow.Author.Tests.{leb-true}
 use lib.Dec.{ltb}
 use lib.ListN.{length, getD, set, replicate}
-use borrow.Author.Tests.{leb-true}
 use Rattle.stack_assembly.specs.Answer.{Effect, number, isRefusal, AssertionFailed, DivisionByZero, IntegerOverflow, InvalidAddress, InvalidOperandStackIndex, InvalidReference, OperandStackUnderflow, OutOfOperators, Return, UnknownIdentifier, Yield}
 use Rattle.stack_assembly.specs.Script.{Script}
 use Rattle.stack_assembly.specs.Machine.{Store, Machine, Room, Outcome, continues, raises, refuses, Done, done, withStore, withMemory, push}

@@ -6,9 +6,9 @@ use mathlib.Core.List.{List, [], _∷_, _++_}
 use mathlib.Core.Logic.{⊎-elim}
 use mathlib.Core.Path.{_≡_, refl, sym, ap, _∙_, subst}
 use native.Mathlib.Omega.{arith}
+use borrow.Author.Tests.{ne-eqb, leb-false}
 use lib.Dec.{leb}
 use lib.ListN.{replicate}
-use borrow.Author.Tests.{ne-eqb, leb-false}
 use Rattle.stack_assembly.specs.Answer.{Answer, isRefusal, isLimit}
 use Rattle.stack_assembly.specs.Script.{Compilation, CompileAnswer, scriptOf, compile}
 use Rattle.stack_assembly.specs.Machine.{Machine, Done}

@@ -5,7 +5,7 @@ use mathlib.Core.List.{List, [], _∷_, map}
 use mathlib.Core.Option.{some}
 use mathlib.Core.Path.{_≡_, refl}
 use lib.ListN.{length}
-use Rattle.text.specs.Names.{sameBytes}
+use Rattle.names.specs.Names.{sameBytes}
 use Rattle.stack_assembly.specs.Words.{Row, words, lookup}
 
 -- no row has the name

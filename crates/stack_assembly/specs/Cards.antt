@@ -3,7 +3,7 @@ use Prim.Native.Nat.{ℕ, _-_, _*_, _^_}
 use mathlib.Core.List.{List, [], _∷_, map}
 use mathlib.Core.Path.{_≡_}
 use lib.ListN.{length, replicate}
-use Rattle.text.specs.Names.{bytes}
+use Rattle.names.specs.Names.{bytes}
 use Rattle.stack_assembly.specs.Answer.{answer}
 use Rattle.stack_assembly.specs.Script.{Operator, operator, Label, Script, CompileAnswer, accepted, rejected, compile, scriptIn, part}
 use Rattle.stack_assembly.specs.Host.{machineOf}

@@ -4,7 +4,7 @@ use mathlib.Core.Bool.{true, false}
 use mathlib.Core.List.{List, [], _∷_}
 use mathlib.Core.Path.{_≡_}
 use lib.ListN.{replicate}
-use Rattle.text.specs.Names.{bytes}
+use Rattle.names.specs.Names.{bytes}
 use Rattle.stack_assembly.specs.Answer.{Answer, answer}
 use Rattle.stack_assembly.specs.Script.{CompileAnswer, accepted, rejected, compile}
 use Rattle.stack_assembly.specs.Run.{step-call, run-call, clear-call, push-call, pop-call, read-call, write-call}

@@ -6,9 +6,9 @@ use mathlib.Core.Option.{Option, none, some}
 use lib.Dec.{leb, ltb}
 use lib.ListN.{length, getD, take, drop}
 use lib.Seq.{slice}
-use Rattle.text.specs.Utf8.{chars, illFormedAt}
-use Rattle.text.specs.Tokens.{Token, bytesOf, tokens}
-use Rattle.text.specs.Kinds.{Kind, label, reference, integer, identifier, kindOf}
+use Rattle.utf8.specs.Utf8.{chars, illFormedAt}
+use Rattle.tokens.specs.Tokens.{Token, bytesOf, tokens}
+use Rattle.kinds.specs.Kinds.{Kind, label, reference, integer, identifier, kindOf}
 
 -- An operator record: kind 0 for an identifier, 1 for an integer, 2 for a reference; its range of bytes; an integer's bits, else 0.
 pub record Operator : Type 0 where

@@ -5,7 +5,7 @@ use mathlib.Core.List.{List, [], _∷_}
 use mathlib.Core.Option.{Option, none, some}
 use lib.Dec.{ltb}
 use lib.ListN.{length, drop}
-use Rattle.text.specs.Names.{sameBytes}
+use Rattle.names.specs.Names.{sameBytes}
 use Rattle.word.specs.Word.{wrap}
 use Rattle.stack_assembly.specs.Answer.{number, InvalidReference, OutOfOperators, UnknownIdentifier}
 use Rattle.stack_assembly.specs.Script.{Operator, Label, Script, part, damagedOperator, damagedLabel}

@@ -4,7 +4,7 @@ use Prim.Native.String.{String}
 use mathlib.Core.Bool.{cond}
 use mathlib.Core.List.{List, [], _∷_}
 use mathlib.Core.Option.{Option, none, some}
-use Rattle.text.specs.Names.{bytes, sameBytes}
+use Rattle.names.specs.Names.{bytes, sameBytes}
 
 -- The words, grouped by what they do: two operands to one, one to one, on the stack, memory, jumps, calls, and those that end.
 pub data Word : Type 0 where

@@ -1,0 +1,1 @@
+// No code: laws about tests and slices that several crates cite.

@@ -1,0 +1,2 @@
+-- What is proved of packed bytes.
+pub mod Eight

@@ -1,2 +1,0 @@
--- What is proved of the text's definitions.
-pub mod Examples

@@ -1,1 +1,0 @@
-// What Rust's str, char and from_str_radix gave.

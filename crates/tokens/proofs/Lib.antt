@@ -1,0 +1,6 @@
+-- What is proved of tokens.
+pub mod Flagged
+pub mod Plains
+pub mod Spans
+pub mod Scans
+pub mod Examples

@@ -1,0 +1,21 @@
+-- What the private functions ask and promise; no public contract cites it.
+use Prim.Native.Nat.{ℕ, _≤_, _<_}
+use mathlib.Core.Bool.{cond}
+use mathlib.Core.List.{List}
+use mathlib.Core.Path.{_≡_}
+use lib.Dec.{eqb}
+use lib.ListN.{length, getD}
+
+-- The least byte that may follow the first byte a of a sequence of three or four, and the greatest.
+unfoldable pub lowAfter : (a : ℕ) → ℕ
+lowAfter a = cond (eqb a 0xE0) 0xA0 (cond (eqb a 0xF0) 0x90 0x80)
+
+unfoldable pub highAfter : (a : ℕ) → ℕ
+highAfter a = cond (eqb a 0xED) 0x9F (cond (eqb a 0xF4) 0x8F 0xBF)
+
+-- The bytes start with a, which is from low to high.
+pub record Starts (low high a : ℕ) (bytes : List ℕ) : Type 0 where
+  pub least : low ≤ a
+  pub most : a ≤ high
+  pub some : 0 < length bytes
+  pub first : a ≡ getD bytes 0 0
