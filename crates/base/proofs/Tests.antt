@@ -1,6 +1,6 @@
--- Laws of tests: of `cond` and `&&`, of a number within bounds, and of a test that is computed for every number below one.
+-- Laws of tests: of `cond`, `&&` and `||`, of a number within bounds, and of a test that is computed for every number below one.
 use Prim.Native.Nat.{ℕ, zero, suc, _≤_, _<_}
-use mathlib.Core.Bool.{Bool, true, false, cond, _&&_, and-eq-true-iff}
+use mathlib.Core.Bool.{Bool, true, false, cond, _&&_, _||_, and-eq-true-iff, true≢false}
 use mathlib.Core.Logic.{⊎-elim}
 use mathlib.Core.Path.{_≡_, refl, sym, subst}
 use native.Mathlib.Nat.{eq-or-lt-of-le, le-of-suc-le-suc, not-suc-le-zero}
@@ -26,6 +26,13 @@ cond-and false t x y = refl
 
 pub both : (s t : Bool) → (s && t) ≡ true → (s ≡ true) × (t ≡ true)
 both s t e = and-eq-true-iff s t .0 e
+
+pub absurd-bool : {X : Type 0} → false ≡ true → X
+absurd-bool e = absurd (true≢false (sym e))
+
+pub neither : (s t : Bool) → (s || t) ≡ false → (s ≡ false) × (t ≡ false)
+neither true t e = absurd-bool (sym e)
+neither false t e = (refl, e)
 
 pub within-true : (low high n : ℕ) → within low high n ≡ true → (low ≤ n) × (n ≤ high)
 within-true low high n e = let p = both (leb low n) (leb n high) e in (leb-true low n (p .0), leb-true n high (p .1))

@@ -1,7 +1,7 @@
 -- A chain of promises from an unforged start is the definition's list of calls: its answers, its machine at the end, on one script and with
 -- one room throughout.
 use Prim.Native.Nat.{ℕ, _≤_}
-use mathlib.Core.Bool.{Bool, true, false, _||_}
+use mathlib.Core.Bool.{false}
 use mathlib.Core.List.{List, [], _∷_, _++_}
 use mathlib.Core.Path.{_≡_, refl, sym, ap, _∙_, subst, subst⁻¹}
 use native.Mathlib.Omega.{arith}
@@ -15,7 +15,8 @@ use Rattle.stack_assembly.specs.Host.{Lent, live, machineOf, roomOf, for
 use Rattle.stack_assembly.specs.Promise.{Called}
 use Rattle.stack_assembly.specs.Evaluator.{Buffers, lentFirst, begun, worked, Made, callsOf, answersOf, lastOf, Chain, Evaluation, compiled, startOf, SameState}
 use Rattle.stack_assembly.proofs.Live.{same-depth}
-use Rattle.stack_assembly.proofs.Compile.{absurd-bool, begun-script, begun-operators, begun-labels}
+use Rattle.base.proofs.Tests.{absurd-bool, neither}
+use Rattle.stack_assembly.proofs.Compile.{begun-script, begun-operators, begun-labels}
 use Rattle.stack_assembly.proofs.Refused.{performed-standing}
 
 -- ---- equal machines are equal states
@@ -53,10 +54,6 @@ unforged-false l u =
       le-ltb (labelCapacity (l .tables .labels)) (l .tables .labelCount) (u .labels),
       le-ltb 11 (l .state .effect) (u .effect),
     )
-
-neither : (a b : Bool) → (a || b) ≡ false → (a ≡ false) × (b ≡ false)
-neither true b e = absurd-bool (sym e)
-neither false b e = (refl, e)
 
 pub false-unforged : (l : Lent) → forged l ≡ false → Unforged l
 unfolding forged

@@ -10,13 +10,11 @@ use borrow.Author.Tests.{le-ltb, ltb-false}
 use lib.Dec.{ltb}
 use lib.ListN.{length, drop}
 use Rattle.utf8.specs.Utf8.{chars, illFormedAt}
+use Rattle.base.proofs.Tests.{absurd-bool}
 use Rattle.stack_assembly.specs.Answer.{isLimit}
 use Rattle.stack_assembly.specs.Script.{operatorWords, labelWords, operatorTable, labelTable, operatorIn, labelIn, operatorCapacity, labelCapacity, recordsIn, scriptOf, scriptIn, CompileAnswer, accepted, rejected, fitted, checked, longest, compileAnswer, written, compile}
 use Rattle.stack_assembly.specs.Evaluator.{Buffers, begun}
 use Rattle.stack_assembly.proofs.Records.{read-back, words-length, still-holds}
-
-pub absurd-bool : {X : Type 0} → false ≡ true → X
-absurd-bool e = absurd (let z : _≡_ {A = ℕ} 0 1 = cc in omega arith)
 
 -- ---- the answer, by its tests: the text is too long, it is ill-formed, or there are too many of its n operators or m labels
 

@@ -17,7 +17,7 @@ use Rattle.stack_assembly.specs.Operators.{entered, called, calledEither
 use Rattle.stack_assembly.specs.Step.{Fetched, past, damaged, pushes, unresolved, word, unknown, fetched, pushed, outcome, advanced, settled, stepUnder, step}
 use Rattle.stack_assembly.specs.Run.{oneMore, followed, run, hostPushed, Call, step-call, run-call, clear-call, push-call, pop-call, read-call, write-call, performed, Performance, performedAll}
 use Rattle.stack_assembly.specs.Sizes.{SameCall, SameCalls, NoLimit}
-use Rattle.stack_assembly.proofs.Compile.{absurd-bool}
+use Rattle.base.proofs.Tests.{absurd-bool}
 
 -- the second stacks have at least the room of the first
 pub record Wider (r₁ r₂ : Room) : Type 0 where

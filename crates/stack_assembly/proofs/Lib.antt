@@ -7,6 +7,7 @@ pub mod Records
 pub mod Live
 pub mod Compile
 pub mod Refused
+pub mod Numbers
 pub mod Larger
 pub mod Chains
 pub mod Sizes

@@ -17,7 +17,8 @@ use Rattle.stack_assembly.specs.Host.{Lent, machineOf}
 use Rattle.stack_assembly.specs.Promise.{Called}
 use Rattle.stack_assembly.specs.Evaluator.{Buffers, Made, callsOf, answersOf, lastOf, Chain, Evaluation, compiled, startOf, endOf, SameState, AllZero}
 use Rattle.stack_assembly.specs.Sizes.{AtLeast, SameCall, SameCalls, NoLimit, SameToTheEnd, SameUpToLimit, Condition3}
-use Rattle.stack_assembly.proofs.Compile.{absurd-bool, compile-larger}
+use Rattle.base.proofs.Tests.{absurd-bool}
+use Rattle.stack_assembly.proofs.Compile.{compile-larger}
 use Rattle.stack_assembly.proofs.Refused.{singleSteps, BySteps, call-refused}
 use Rattle.stack_assembly.proofs.Larger.{Wider, all-larger}
 use Rattle.stack_assembly.proofs.Chains.{same-state, call-is, chain-is, chain-before, chain-after, last-append, first-called, room, start-machine, start-holds}

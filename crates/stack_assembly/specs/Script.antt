@@ -1,4 +1,4 @@
--- Compile: from a text's bytes to the records of its operators and labels, in lent tables. The crate `text` says what the tokens are.
+-- Compile: from a text's bytes to the records of its operators and labels, in lent tables. The crates utf8, tokens and kinds say what the tokens are.
 use Prim.Native.Nat.{ℕ, zero, suc, _+_, _-_, _/_}
 use mathlib.Core.Bool.{Bool, cond, _||_}
 use mathlib.Core.List.{List, [], _∷_, _++_, map, flatMap}

@@ -3,4 +3,5 @@ pub mod Flagged
 pub mod Plains
 pub mod Spans
 pub mod Scans
+pub mod Later
 pub mod Examples

@@ -16,7 +16,7 @@ use Rattle.utf8.specs.WhiteSpace.{white}
 use Rattle.tokens.specs.declared.tokens.Next.{Next}
 use Rattle.tokens.specs.declared.tokens.Next.the-variants.{Token, IllFormed, End}
 use Rattle.tokens.specs.Tokens.{State, initial, comment, token, next, ended, tokensFrom, tokensAt}
-use Rattle.tokens.specs.Answers.{widthOf, nextOf}
+use Rattle.tokens.specs.Answers.{widthOf, nextOf, nextAt}
 use Rattle.tokens.specs.Private.{stops, until, stopFrom, StoppedAt, Broken, Between}
 use Rattle.tokens.specs.Tokens as tokens
 use Rattle.base.proofs.Parts.{first-at}
@@ -222,7 +222,7 @@ module _ {text : List ℕ} {i : ℕ} (h : i < length text) where
   char-past {at = at} (hash b) s = omega (arith, s .least, s .next, char-fits text at (s .value) (s .width) (s .char))
   char-past {at = at} (other b) s = omega (arith, s .least, s .next, char-fits text at (s .value) (s .width) (s .char))
 
-pub answered : {text : List ℕ} {from at : ℕ} {r : Next} → Between text from at → r ≡ answer text at → r ≡ nextOf text (tokensAt text from) (illFormedAt (charsAt text from))
+pub answered : {text : List ℕ} {from at : ℕ} {r : Next} → Between text from at → r ≡ answer text at → r ≡ nextAt text from
 unfolding answer
 answered p e = e ∙ rw (p .tokens, p .illFormed)
 

@@ -6,9 +6,8 @@ use utf8::is_white_space;
 ghost use mathlib.Core.Path.{_≡_};
 ghost use Prim.Native.Nat.{_≤_, _<_};
 ghost use lib.ListN.{length, getD};
-ghost use Rattle.utf8.specs.Utf8.{front, charsAt, illFormedAt};
-ghost use Rattle.tokens.specs.Tokens.{tokensAt};
-ghost use Rattle.tokens.specs.Answers.{nextOf};
+ghost use Rattle.utf8.specs.Utf8.{front};
+ghost use Rattle.tokens.specs.Answers.{nextAt};
 ghost use Rattle.tokens.specs.Private.{Flags, Plain, stops, passedOf, Stopped, Between};
 
 // The next token and the offset past the white space that ends it; or where the first ill-formed sequence starts; or neither.
@@ -136,8 +135,8 @@ fn blank_end(text: &[u8], from: usize) -> usize
     i
 }
 
-pub fn next_token(text: &[u8], from: usize) -> Next
-    ensures { λ r. ⌜ r ≡ nextOf (now (text .entry)) (tokensAt (now (text .entry)) from) (illFormedAt (charsAt (now (text .entry)) from)) ⌝ }
+pub(crate) fn next_token(text: &[u8], from: usize) -> Next
+    ensures { λ r. ⌜ r ≡ nextAt (now (text .entry)) from ⌝ }
 {
     let mut i = from;
     loop {
