@@ -1,0 +1,3 @@
+-- What the answers of compile and of the source of an operator say.
+pub mod Answers
+pub mod Private
