@@ -1,0 +1,3 @@
+-- The next operator as a code.
+pub mod Codes
+pub mod Private

@@ -1,0 +1,7 @@
+// What a step reads of a script: the next operator.
+mod codes;
+mod operators;
+mod references;
+
+pub use codes::Code;
+pub use operators::fetch;
