@@ -1,0 +1,3 @@
+-- What the operators' contracts cite beside the definition.
+pub mod Outcomes
+pub mod Private

@@ -1,0 +1,105 @@
+// The words of two operands and one result. b is the operand on top.
+ghost use mathlib.Core.Path.{_≡_};
+ghost use Prim.Native.Nat.{_≤_, _<_};
+ghost use Rattle.stack_assembly.specs.Machine.{Room};
+ghost use Rattle.stack_assembly.specs.Operators.{evaluated};
+ghost use Rattle.operators.specs.Outcomes.{binaryWord, OnOperands};
+ghost use Rattle.operators.specs.Private.{binaryOf};
+use crate::effect::NONE;
+use crate::effect::OPERAND_STACK_UNDERFLOW;
+use crate::effect::Stack;
+
+fn arithmetic(place: usize, a: u32, b: u32) -> u32
+    requires { ⌜ place < 3 ⌝ }
+    ensures { λ r. ⌜ r ≡ binaryOf place a b ⌝ }
+{
+    if place == 0 {
+        return word::wrapping_mul(a, b);
+    }
+    if place == 1 {
+        return word::wrapping_add(a, b);
+    }
+    word::wrapping_sub(a, b)
+}
+
+fn compared(place: usize, a: u32, b: u32) -> u32
+    requires { ⌜ (3 ≤ place) × (place < 8) ⌝ }
+    ensures { λ r. ⌜ r ≡ binaryOf place a b ⌝ }
+{
+    if place < 5 {
+        if place == 3 {
+            return word::less(a, b);
+        }
+        return word::at_most(a, b);
+    }
+    if place == 5 {
+        return word::equal(a, b);
+    }
+    if place == 6 {
+        return word::greater(a, b);
+    }
+    word::at_least(a, b)
+}
+
+fn bit_by_bit(place: usize, a: u32, b: u32) -> u32
+    requires { ⌜ (8 ≤ place) × (place < 11) ⌝ }
+    ensures { λ r. ⌜ r ≡ binaryOf place a b ⌝ }
+{
+    if place == 8 {
+        return word::bitwise_and(a, b);
+    }
+    if place == 9 {
+        return word::bitwise_or(a, b);
+    }
+    word::bitwise_xor(a, b)
+}
+
+fn moved(place: usize, a: u32, b: u32) -> u32
+    requires { ⌜ 11 ≤ place ⌝ }
+    ensures { λ r. ⌜ r ≡ binaryOf place a b ⌝ }
+{
+    if place == 11 {
+        return word::rotate_left(a, b);
+    }
+    if place == 12 {
+        return word::rotate_right(a, b);
+    }
+    if place == 13 {
+        return word::shift_left(a, b);
+    }
+    word::shift_right(a, b)
+}
+
+fn applied(place: usize, a: u32, b: u32) -> u32
+    ensures { λ r. ⌜ r ≡ binaryOf place a b ⌝ }
+{
+    if place < 3 {
+        return arithmetic(place, a, b);
+    }
+    if place < 8 {
+        return compared(place, a, b);
+    }
+    if place < 11 {
+        return bit_by_bit(place, a, b);
+    }
+    moved(place, a, b)
+}
+
+pub fn binary(place: usize, operands: &mut [u32]) -> Stack
+    ensures { λ r. ⌜ ((room : Room) → OnOperands (evaluated room (binaryWord place)) (now (operands .entry)) (now (operands .exit)) r) ⌝ }
+{
+    let depth = operands.len();
+    if depth < 2 {
+        return Stack {
+            depth: 0,
+            effect: OPERAND_STACK_UNDERFLOW,
+        };
+    }
+    let b = operands[depth - 1];
+    let a = operands[depth - 2];
+    operands[depth - 2] = applied(place, a, b);
+    Stack {
+        depth: depth - 1,
+        effect: NONE,
+    }
+}

@@ -1,0 +1,72 @@
+-- What is remembered of what was fetched.
+use Prim.Native.Nat.{ℕ, _+_, _*_, _/_, _%_, _^_, _<_}
+use mathlib.Core.Bool.{Bool, true, false}
+use mathlib.Core.List.{List}
+use mathlib.Core.Logic.{_⊎_, inl, inr}
+use mathlib.Core.Path.{_≡_, refl, sym, ap, _∙_, subst⁻¹}
+use native.Mathlib.Omega.{arith}
+use borrow.Author.Tests.{eqb-true, eqb-false, ltb-true, ltb-false}
+use lib.Dec.{eqb, ltb}
+use lib.ListN.{length, getD, set}
+use lib.Seq.{getD-set-same, getD-set-other, set-out}
+use Rattle.stack_assembly.specs.Script.{Script, Tables, scriptIn}
+use Rattle.words.specs.Table.{theTable}
+use Rattle.fetch.proofs.Fetched.{fetched-is}
+use Rattle.fetch.specs.declared.codes.Code.{Code}
+use Rattle.steps.specs.Private.{Finds, decoded, Remembers, Knows}
+use Rattle.steps.proofs.Comes.{code-end}
+use Rattle.fetch.specs.Codes.{fetchedOf, Fetches}
+
+-- the word that a code is remembered by
+abbrev wordOf : Code → ℕ
+wordOf c = c .value % 2 ^ 32 * 64 + c .op
+
+-- it decodes to a code for the same: only a push has a value
+same-code : (c : Code) → c .op < 33 → (c .op < 2 → c .value < 2 ^ 32) → fetchedOf (decoded (wordOf c)) ≡ fetchedOf c
+unfolding fetchedOf
+same-code c h small =
+    let o : wordOf c % 64 ≡ c .op = omega arith in
+    let v : wordOf c / 64 ≡ c .value % 2 ^ 32 = omega arith in
+    rw (o, v) (go (ltb (c .op) 2) refl)
+  where
+    go : (t : Bool) → ltb (c .op) 2 ≡ t → fetchedOf (record { op = c .op; value = c .value % 2 ^ 32 }) ≡ fetchedOf c
+    go true e =
+        let l : c .value < 2 ^ 32 = small (ltb-true (c .op) 2 e) in
+        let w : c .value % 2 ^ 32 ≡ c .value = omega arith in
+        rw w
+    go false e = go-end (ltb (c .op) 32) refl
+      where
+        go-end : (t : Bool) → ltb (c .op) 32 ≡ t → fetchedOf (record { op = c .op; value = c .value % 2 ^ 32 }) ≡ fetchedOf c
+        go-end true f = rw (e, f)
+        go-end false f = let z : c .op ≡ 32 + 0 = omega (arith, ltb-false (c .op) 32 f) in code-end (record { op = c .op; value = c .value % 2 ^ 32 }) 0 z ∙ sym (code-end c 0 z)
+
+module _ {s : Script} {known : List ℕ} (k : Knows s known) where
+  pub recalled : {next word : ℕ} → word ≡ getD known next 0 → (word ≡ 0 → ⊥) → {c : Code} → c ≡ decoded word → Finds s next c
+  recalled {next} e n {c} d = subst⁻¹ (Finds s next) (d ∙ ap decoded e) (go (k .each next))
+    where
+      go : (getD known next 0 ≡ 0) ⊎ Finds s next (decoded (getD known next 0)) → Finds s next (decoded (getD known next 0))
+      go (inl z) = absurd (n (e ∙ z))
+      go (inr f) = f
+
+  remembered : {next : ℕ} {c : Code} → c .op < 33 → Finds s next c → Knows s (set known next (wordOf c))
+  remembered {next} {c} h f = record { each = λ at. go at (eqb at next) refl (ltb next (length known)) refl }
+    where
+      go : (at : ℕ) (t : Bool) → eqb at next ≡ t → (l : Bool) → ltb next (length known) ≡ l
+          → (getD (set known next (wordOf c)) at 0 ≡ 0) ⊎ Finds s at (decoded (getD (set known next (wordOf c)) at 0))
+      go at true e true l =
+          let same : at ≡ next = eqb-true at next e in
+          rw (same, getD-set-same known next (wordOf c) 0 (ltb-true next (length known) l))
+          (inr (record { fetched = same-code c h (f .small) ∙ f .fetched; small = λ p. omega arith }))
+      go at true e false l = rw (set-out known next (wordOf c) (ltb-false next (length known) l)) (k .each at)
+      go at false e l m = rw (getD-set-other known next at (wordOf c) 0 (eqb-false at next e)) (k .each at)
+
+  pub knows-more : {next : ℕ} {c : Code} {known′ : List ℕ} → Finds s next c → Remembers c next known known′ → Knows s known′
+  knows-more f (inl e) = subst⁻¹ (Knows s) e k
+  knows-more f (inr (h, e)) = subst⁻¹ (Knows s) e (remembered h f)
+
+-- nothing is known
+pub knows-none : (s : Script) (known : List ℕ) → ((at : ℕ) → getD known at 0 ≡ 0) → Knows s known
+knows-none s known h = record { each = λ at. inl (h at) }
+
+pub finds : {table : List (List ℕ)} {tables : Tables} {next : ℕ} {c : Code} → table ≡ theTable → Fetches table tables next c → Finds (scriptIn tables) next c
+finds t f = record { fetched = fetched-is f t; small = f .small }

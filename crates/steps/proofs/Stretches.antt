@@ -1,0 +1,112 @@
+-- A run in stretches of steps: one after the other, and from the first to the answer.
+use Prim.Native.Nat.{ℕ, zero, suc, _+_, _-_}
+use mathlib.Core.Bool.{Bool, true, false, _||_}
+use mathlib.Core.List.{List}
+use mathlib.Core.Path.{_≡_, refl, sym, ap, _∙_, subst, subst⁻¹}
+use native.Mathlib.Omega.{arith}
+use native.Mathlib.Nat.{zero-add}
+use borrow.Author.Tests.{ne-eqb, le-ltb, ltb-false}
+use lib.Dec.{ltb}
+use lib.ListN.{length, getD, replicate}
+use Rattle.stack_assembly.specs.Script.{Script}
+use Rattle.stack_assembly.specs.Machine as machine
+use Rattle.stack_assembly.specs.Machine.{Done, done}
+use Rattle.stack_assembly.specs.Run.{run}
+use Rattle.base.proofs.Tests.{absurd-bool, neither}
+use Rattle.steps.specs.declared.outcome.Store.{Store}
+use Rattle.steps.specs.declared.steps.Stretch.{Stretch}
+use Rattle.steps.specs.declared.budget.Ran.{Ran}
+use Rattle.steps.specs.Runs.{Fits, machineIn, RunMade}
+use Rattle.steps.specs.Private.{counted, Start, whole, Going, Ended, Goes, ranBy}
+use Rattle.steps.proofs.Comes.{kept-same}
+
+module _ {s : Script} (a b : ℕ) {n : ℕ} {store : Store} {os cs ms : List ℕ} {first : Stretch} {os₁ cs₁ ms₁ : List ℕ}
+    (e : a + b ≡ n) (g : Goes s a store os cs ms first os₁ cs₁ ms₁) where
+  together : (further : ℕ) → n + further ≡ a + (b + further)
+  together further = omega (arith, e)
+
+  -- the first stretch ended the run
+  pub goes-ended : (first .number ≡ 0 → ⊥)
+      → Goes s n store os cs ms (record { store = first .store; number = first .number; value = first .value; left = first .left + b }) os₁ cs₁ ms₁
+  goes-ended z =
+      record {
+        fits = g .fits;
+        least = omega (arith, g .least, e);
+        more = λ _. omega (arith, g .more z);
+        spent = λ q. absurd (z q);
+        ended = λ _ start further going.
+            let k : first .left + (b + further) ≡ first .left + b + further = omega arith in
+            subst (λ (i : ℕ). Ended s start (record { store = first .store; number = first .number; value = first .value; left = i }) os₁ cs₁ ms₁) k
+            (g .ended z start (b + further) (subst (λ (i : ℕ). Going s start i store os cs ms) (together further) going));
+      }
+
+  -- the second goes on from it
+  pub goes-on : first .number ≡ 0 → {r : Stretch} {os′ cs′ ms′ : List ℕ} → Goes s b (first .store) os₁ cs₁ ms₁ r os′ cs′ ms′ → Goes s n store os cs ms r os′ cs′ ms′
+  goes-on z h =
+      record {
+        fits = h .fits;
+        least = omega (arith, h .least, e);
+        more = h .more;
+        spent = λ q start further going. h .spent q start further (g .spent z start (b + further) (subst (λ (i : ℕ). Going s start i store os cs ms) (together further) going));
+        ended = λ q start further going. h .ended q start further (g .spent z start (b + further) (subst (λ (i : ℕ). Going s start i store os cs ms) (together further) going));
+      }
+
+-- ---- from the start
+
+none-counted : (d : Done) → d ≡ counted 0 d
+none-counted d = ap (λ (k : ℕ). done (d .answer .number) (d .answer .value) k (d .machine)) (sym (zero-add (d .answer .steps)))
+
+going-start : (s : Script) (start : Start) → Fits (start .store) (start .operandStack) (start .callStack)
+    → Going s start (start .budget + 0) (start .store) (start .operandStack) (start .callStack) (start .memory)
+going-start s start f =
+    let e : start .budget + 0 ≡ start .budget = omega arith in
+    let z : start .budget - start .budget ≡ 0 = omega arith in
+    subst⁻¹ (λ (i : ℕ). Going s start i (start .store) (start .operandStack) (start .callStack) (start .memory)) e
+    (record {
+      same = rw z (none-counted (whole s start));
+      least = omega arith;
+      reaches = λ depth. omega arith;
+      operands = kept-same _ _ (start .operandStack) (f .operands);
+      calls = kept-same _ _ (start .callStack) (f .calls);
+    })
+
+module _ {s : Script} {budget : ℕ} {store : Store} {os cs ms : List ℕ} {e : Stretch} {os′ cs′ ms′ : List ℕ}
+    (g : Goes s budget store os cs ms e os′ cs′ ms′) (f : Fits store os cs) where
+  abbrev from : (o : ℕ) → Start
+  from o = record { budget = budget; effectOperator = o; store = store; operandStack = os; callStack = cs; memory = ms }
+
+  pub ran-made : {r : Ran} → r ≡ ranBy e budget → (o : ℕ) → RunMade s budget store os cs ms r os′ cs′ ms′ o
+  unfolding run
+  ran-made {r} q o = subst⁻¹ (λ (x : Ran). RunMade s budget store os cs ms x os′ cs′ ms′ o) q (go (e .number) refl)
+    where
+      go : (n : ℕ) → e .number ≡ n → RunMade s budget store os cs ms (ranBy e budget) os′ cs′ ms′ o
+      go zero z =
+          let end = g .spent z (from o) 0 (going-start s (from o) f) in
+          let k : budget - 0 + 0 ≡ budget = omega arith in
+          rw z
+          (record {
+            answer = end .same ∙ ap (λ (i : ℕ). done 29 (e .store .«next_operator») i (machineIn o (e .store) os′ cs′ ms′)) k;
+            small = λ h. absurd (omega arith);
+            operands = end .operands;
+            calls = end .calls;
+          })
+      go (suc n) z =
+          let some : e .number ≡ 0 → ⊥ = λ q. let y : suc n ≡ 0 = sym z ∙ q in omega arith in
+          let end = g .ended some (from o) 0 (going-start s (from o) f) in
+          let k : e .left + 0 ≡ e .left = omega arith in
+          rw (ne-eqb (e .number) 0 some)
+          (record { answer = rw k at (end .same); small = end .small; operands = end .operands; calls = end .calls })
+
+-- ---- nothing is remembered yet
+pub zeros-at : (n at : ℕ) → _≡_ {A = ℕ} (getD (replicate n 0) at 0) 0
+zeros-at zero at = refl
+zeros-at (suc n) zero = refl
+zeros-at (suc n) (suc at) = zeros-at n at
+
+-- ---- 25
+module _ {store : Store} {os cs : List ℕ} where
+  pub unfit : (ltb (length os) (store .«operand_depth») || ltb (length cs) (store .«call_depth»)) ≡ true → Fits store os cs → ⊥
+  unfit e f = let z : _≡_ {A = Bool} false true = sym (rw (le-ltb (length os) (store .«operand_depth») (f .operands), le-ltb (length cs) (store .«call_depth») (f .calls))) ∙ e in absurd-bool z
+
+  pub fit : (ltb (length os) (store .«operand_depth») || ltb (length cs) (store .«call_depth»)) ≡ false → Fits store os cs
+  fit e = let p = neither _ _ e in record { operands = ltb-false _ _ (p .0); calls = ltb-false _ _ (p .1) }

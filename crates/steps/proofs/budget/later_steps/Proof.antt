@@ -1,0 +1,34 @@
+use Rattle.steps.proofs.Stretches.{zeros-at}
+use Rattle.stack_assembly.specs.Script.{scriptIn}
+use Rattle.fetch.specs.Codes.{lent}
+use Rattle.steps.proofs.Remembering.{knows-none}
+use borrow.Author.Needs.{needs}
+use Rattle.steps.proofs.budget.later_steps.Statement.{statement}
+use Rattle.steps.proofs.budget.later_steps.Tie as tie
+
+slice-aggregate-steps : tie.Need-slice-aggregate-steps
+slice-aggregate-steps c = search needs
+
+steps-requires : tie.Need-steps-requires
+steps-requires c κs =
+    let start = c .before .before .before .before .before .before .before .before .before .before in
+    (start .pre .0, (start .pre .1, knows-none (scriptIn (lent (start .args .text .now) (start .args .operators .now) (start .args .labels .now))) _ (λ at. zeros-at 256 at)))
+
+same-length : tie.Need-same-length
+same-length c = search needs
+
+same-length-2 : tie.Need-same-length-2
+same-length-2 c = search needs
+
+same-length-3 : tie.Need-same-length-3
+same-length-3 c = search needs
+
+returns : tie.Need-returns
+returns c =
+    let at-steps = c .before .before .before .before .before .before .before in
+    at-steps .steps .ensures
+
+pub later-steps-spec : {M : Type 1} → statement M
+later-steps-spec =
+    tie.close
+    (tie.spec slice-aggregate-steps steps-requires same-length same-length-2 same-length-3 returns)

@@ -1,0 +1,51 @@
+use mathlib.Core.Path.{refl}
+use Rattle.steps.specs.Runs.{Runs}
+use Rattle.steps.proofs.Stretches.{unfit, fit, ran-made}
+use borrow.Author.Needs.{needs}
+use Rattle.steps.proofs.budget.run.Statement.{statement}
+use Rattle.steps.proofs.budget.run.Tie as tie
+
+returns : tie.Need-returns
+returns c = Runs.refused (unfit (c .if1 .taken)) refl refl refl refl
+
+table-requires : tie.Need-table-requires
+table-requires c κs = search needs
+
+all-steps-requires : tie.Need-all-steps-requires
+all-steps-requires c κs =
+    let at-table = c .before .before .before .before in
+    let at-if1 = at-table .before in
+    (fit (at-if1 .if1 .left), at-table .table .ensures)
+
+finished-requires : tie.Need-finished-requires
+finished-requires c κs =
+    let at-all-steps = c .before .before .before .before .before .before in
+    record { least = at-all-steps .all-steps .ensures .least; more = at-all-steps .all-steps .ensures .more }
+
+same-length : tie.Need-same-length
+same-length c = search needs
+
+same-length-2 : tie.Need-same-length-2
+same-length-2 c = search needs
+
+same-length-3 : tie.Need-same-length-3
+same-length-3 c = search needs
+
+returns-2 : tie.Need-returns-2
+returns-2 c =
+    let at-all-steps = c .before .before .before .before .before .before .before in
+    let at-if1 = at-all-steps .before .before .before .before .before .before in
+    Runs.made (fit (at-if1 .if1 .left)) (ran-made (at-all-steps .all-steps .ensures) (fit (at-if1 .if1 .left)) (c .finished .ensures))
+
+pub run-spec : {M : Type 1} → statement M
+run-spec =
+    tie.close
+    (tie.spec
+    returns
+    table-requires
+    all-steps-requires
+    finished-requires
+    same-length
+    same-length-2
+    same-length-3
+    returns-2)

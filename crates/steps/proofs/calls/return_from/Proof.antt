@@ -1,0 +1,35 @@
+use native.Mathlib.Omega.{arith}
+use Rattle.steps.proofs.Comes.{return-none, return-comes}
+use borrow.Author.Needs.{needs}
+use Rattle.steps.proofs.calls.return_from.Statement.{statement}
+use Rattle.steps.proofs.calls.return_from.Tie as tie
+
+leaving-requires : tie.Need-leaving-requires
+leaving-requires c κs = search needs
+
+returns : tie.Need-returns
+returns c =
+    let start = c .before .before .before in
+    return-none (start .args .store) (start .args .call-stack .now) (start .pre) (c .before .if1 .taken) (c .leaving .ensures)
+
+sub-t6 : tie.Need-sub-t6
+sub-t6 c = search needs
+
+mul-t7 : tie.Need-mul-t7
+mul-t7 c = search needs
+
+shared-slice-read-t9 : tie.Need-shared-slice-read-t9
+shared-slice-read-t9 c = search needs
+
+sub-t10 : tie.Need-sub-t10
+sub-t10 c = search needs
+
+returns-2 : tie.Need-returns-2
+returns-2 c =
+    let start = c .before .before .before in
+    return-comes (start .args .store) (start .args .call-stack .now) (start .pre) (omega arith)
+
+pub return-from-spec : {M : Type 1} → statement M
+return-from-spec =
+    tie.close
+    (tie.spec leaving-requires returns sub-t6 mul-t7 shared-slice-read-t9 sub-t10 returns-2)

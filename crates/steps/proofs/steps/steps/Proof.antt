@@ -1,0 +1,149 @@
+use Prim.Native.Nat.{ℕ, _+_, _-_, _≤_}
+use mathlib.Core.Path.{_≡_, refl, _∙_}
+use native.Mathlib.Omega.{arith}
+use lib.ListN.{length}
+use Rattle.stack_assembly.specs.Script.{scriptIn}
+use Rattle.fetch.specs.Codes.{lent}
+use Rattle.steps.specs.Runs.{Fits}
+use Rattle.steps.specs.Private.{Knows, Start, Going}
+use Rattle.steps.proofs.Running.{going-more, going-ends}
+use borrow.Author.Needs.{needs}
+use Rattle.steps.proofs.steps.steps.Statement.{statement}
+use Rattle.steps.proofs.steps.steps.Tie as tie
+
+abbrev Inv-loop : tie.InvT-loop
+Inv-loop known₀ table text operators labels operand-stack₀ call-stack₀ memory₀ budget current₀ left₀ known operand-stack call-stack memory current left =
+    (length known ≡ length known₀) × (length operand-stack ≡ length operand-stack₀) × (length call-stack ≡ length call-stack₀) × (length memory ≡ length memory₀)
+    × Fits current operand-stack call-stack
+    × Knows (scriptIn (lent text operators labels)) known
+    × ((start : Start) (further : ℕ) → Going (scriptIn (lent text operators labels)) start (left₀ + further) current₀ operand-stack₀ call-stack₀ memory₀
+    → Going (scriptIn (lent text operators labels)) start (left + further) current operand-stack call-stack memory)
+    × (left ≤ left₀)
+
+abbrev μ-loop : tie.MeasureT-loop
+μ-loop known₀ table text operators labels operand-stack₀ call-stack₀ memory₀ budget current₀ left₀ known operand-stack call-stack memory current left =
+    left
+
+loop-holds : tie.Need-loop-holds Inv-loop μ-loop
+loop-holds c =
+    let start = c .before .before .before .before .before .before .before in
+    (refl, refl, refl, refl, start .pre .0, start .pre .1 .1, λ start further g. g, omega arith)
+
+fetched-requires : tie.Need-fetched-requires Inv-loop μ-loop
+fetched-requires c κs =
+    let at-loop = c .before .before in
+    let start = at-loop .before .before .before .before .before .before .before .before in
+    (start .pre .1 .0, at-loop .loop .inv .5)
+
+evaluated-requires : tie.Need-evaluated-requires Inv-loop μ-loop
+evaluated-requires c κs =
+    let at-fetched = c .before .before .before .before .before in
+    let at-loop = at-fetched .before .before .before in
+    (at-loop .loop .inv .4, at-fetched .fetched .ensures .0 .small)
+
+value-of-requires : tie.Need-value-of-requires Inv-loop μ-loop
+value-of-requires c κs = search needs
+
+same-length : tie.Need-same-length Inv-loop μ-loop
+same-length c =
+    let at-fetched = c .before .before .before .before .before .before .before .before .before .before .before .before .before .before .before in
+    let at-loop = at-fetched .before .before .before in
+    at-fetched .fetched .kept .0 ∙ at-loop .loop .inv .0
+
+same-length-2 : tie.Need-same-length-2 Inv-loop μ-loop
+same-length-2 c =
+    let at-evaluated = c .before .before .before .before .before .before .before .before .before in
+    let at-loop = at-evaluated .before .before .before .before .before .before .before .before .before in
+    at-evaluated .evaluated .kept .1 .1 .0 ∙ at-loop .loop .inv .1
+
+same-length-3 : tie.Need-same-length-3 Inv-loop μ-loop
+same-length-3 c =
+    let at-evaluated = c .before .before .before .before .before .before .before .before .before in
+    let at-loop = at-evaluated .before .before .before .before .before .before .before .before .before in
+    at-evaluated .evaluated .kept .1 .1 .1 .0 ∙ at-loop .loop .inv .2
+
+same-length-4 : tie.Need-same-length-4 Inv-loop μ-loop
+same-length-4 c =
+    let at-evaluated = c .before .before .before .before .before .before .before .before .before in
+    let at-loop = at-evaluated .before .before .before .before .before .before .before .before .before in
+    at-evaluated .evaluated .kept .1 .1 .1 .1 .0 ∙ at-loop .loop .inv .3
+
+returns : tie.Need-returns Inv-loop μ-loop
+returns c =
+    let at-evaluated = c .before .before .before .before .before .before .before .before .before in
+    let at-fetched = at-evaluated .before .before .before .before .before .before in
+    let at-loop = at-fetched .before .before .before in
+    record {
+      fits = record { operands = at-evaluated .evaluated .ensures .operands .holds; calls = at-evaluated .evaluated .ensures .calls .holds };
+      least = at-loop .loop .inv .7;
+      more = λ _. omega arith;
+      spent = λ z. absurd (c .before .if1 .taken z);
+      ended = λ z start further g. going-ends (at-loop .loop .inv .6 start further g) (at-fetched .fetched .ensures .0) (at-evaluated .evaluated .ensures) (at-loop .loop .left - 1 + further) (omega arith) z (c .value-of .ensures);
+    }
+
+sub-left : tie.Need-sub-left Inv-loop μ-loop
+sub-left c = search needs
+
+loop-less : tie.Need-loop-less Inv-loop μ-loop
+loop-less c = search needs
+
+loop-again : tie.Need-loop-again Inv-loop μ-loop
+loop-again c =
+    let at-evaluated = c .before .before .before .before .before .before .before .before in
+    let at-fetched = at-evaluated .before .before .before .before .before .before in
+    let at-loop = at-fetched .before .before .before in (
+      at-fetched .fetched .kept .0 ∙ at-loop .loop .inv .0,
+      at-evaluated .evaluated .kept .1 .1 .0 ∙ at-loop .loop .inv .1,
+      at-evaluated .evaluated .kept .1 .1 .1 .0 ∙ at-loop .loop .inv .2,
+      at-evaluated .evaluated .kept .1 .1 .1 .1 .0 ∙ at-loop .loop .inv .3,
+      record { operands = at-evaluated .evaluated .ensures .operands .holds; calls = at-evaluated .evaluated .ensures .calls .holds },
+      at-fetched .fetched .ensures .1,
+      λ start further g. going-more (at-loop .loop .inv .6 start further g) (at-fetched .fetched .ensures .0) (at-evaluated .evaluated .ensures) (at-loop .loop .left - 1 + further) (omega arith) (c .if1 .left),
+      omega (arith, at-loop .loop .inv .7),
+    )
+
+same-length-5 : tie.Need-same-length-5 Inv-loop μ-loop
+same-length-5 c = c .before .loop .inv .0
+
+same-length-6 : tie.Need-same-length-6 Inv-loop μ-loop
+same-length-6 c = c .before .loop .inv .1
+
+same-length-7 : tie.Need-same-length-7 Inv-loop μ-loop
+same-length-7 c = c .before .loop .inv .2
+
+same-length-8 : tie.Need-same-length-8 Inv-loop μ-loop
+same-length-8 c = c .before .loop .inv .3
+
+returns-2 : tie.Need-returns-2 Inv-loop μ-loop
+returns-2 c =
+    record {
+      fits = c .before .loop .inv .4;
+      least = omega arith;
+      more = λ z. absurd (z refl);
+      spent = λ _ start further g. let z : c .before .loop .left + further ≡ further = omega arith in rw z at (c .before .loop .inv .6 start further g);
+      ended = λ z. absurd (z refl);
+    }
+
+pub steps-spec : {M : Type 1} → statement M
+steps-spec =
+    tie.close
+    (tie.spec
+    Inv-loop
+    μ-loop
+    loop-holds
+    fetched-requires
+    evaluated-requires
+    value-of-requires
+    same-length
+    same-length-2
+    same-length-3
+    same-length-4
+    returns
+    sub-left
+    loop-less
+    loop-again
+    same-length-5
+    same-length-6
+    same-length-7
+    same-length-8
+    returns-2)
