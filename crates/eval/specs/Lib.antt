@@ -1,0 +1,3 @@
+-- What the evaluator's contracts cite beside the definition.
+pub mod Lends
+pub mod Private
