@@ -1,0 +1,88 @@
+// The memory, for C: read and write.
+use crate::out::put;
+use crate::out::script;
+use eval::Eval;
+ghost use Rattle.stack_assembly.specs.Run.{read-call, write-call};
+ghost use Rattle.stack_assembly_c.specs.Boundary.{stateOf, tablesOf, CalledFromC};
+
+#[no_mangle]
+pub extern "C" fn stack_assembly_read(
+    next_operator: u32,
+    operand_depth: usize,
+    call_depth: usize,
+    effect: u32,
+    effect_operator: u32,
+    operator_count: usize,
+    label_count: usize,
+    text: &[u8],
+    operators: &[u32],
+    labels: &[u32],
+    operand_stack: &mut [u32],
+    call_stack: &mut [u32],
+    memory: &mut [u32],
+    address: u32,
+    out: &mut [u64; 8],
+)
+    ensures { λ _. ⌜ CalledFromC (read-call address) (stateOf «next_operator» «operand_depth» «call_depth» effect «effect_operator») (tablesOf «operator_count» «label_count» (now (text .entry)) (now (operators .entry)) (now (labels .entry))) (now («operand_stack» .entry)) (now («call_stack» .entry)) (now (memory .entry)) (now (out .exit)) (now («operand_stack» .exit)) (now («call_stack» .exit)) (now (memory .exit)) ⌝ }
+{
+    let answered = host::read(
+        Eval {
+            next_operator,
+            operand_depth,
+            call_depth,
+            effect,
+            effect_operator,
+        },
+        script(operator_count, label_count),
+        text,
+        operators,
+        labels,
+        operand_stack,
+        call_stack,
+        memory,
+        address,
+    );
+    put(out, answered);
+}
+
+#[no_mangle]
+pub extern "C" fn stack_assembly_write(
+    next_operator: u32,
+    operand_depth: usize,
+    call_depth: usize,
+    effect: u32,
+    effect_operator: u32,
+    operator_count: usize,
+    label_count: usize,
+    text: &[u8],
+    operators: &[u32],
+    labels: &[u32],
+    operand_stack: &mut [u32],
+    call_stack: &mut [u32],
+    memory: &mut [u32],
+    address: u32,
+    word: u32,
+    out: &mut [u64; 8],
+)
+    ensures { λ _. ⌜ CalledFromC (write-call address word) (stateOf «next_operator» «operand_depth» «call_depth» effect «effect_operator») (tablesOf «operator_count» «label_count» (now (text .entry)) (now (operators .entry)) (now (labels .entry))) (now («operand_stack» .entry)) (now («call_stack» .entry)) (now (memory .entry)) (now (out .exit)) (now («operand_stack» .exit)) (now («call_stack» .exit)) (now (memory .exit)) ⌝ }
+{
+    let answered = host::write(
+        Eval {
+            next_operator,
+            operand_depth,
+            call_depth,
+            effect,
+            effect_operator,
+        },
+        script(operator_count, label_count),
+        text,
+        operators,
+        labels,
+        operand_stack,
+        call_stack,
+        memory,
+        address,
+        word,
+    );
+    put(out, answered);
+}

@@ -1,0 +1,3 @@
+-- What tally prints.
+pub mod Tally
+pub mod Private
