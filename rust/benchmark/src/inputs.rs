@@ -1,0 +1,125 @@
+//! The texts and scripts that are measured, the same in every run.
+
+/// A fixed sequence of numbers below a bound.
+struct Numbers(u64);
+
+impl Numbers {
+    fn below(&mut self, bound: usize) -> usize {
+        self.0 = self.0.wrapping_mul(6_364_136_223_846_793_005).wrapping_add(1_442_695_040_888_963_407);
+        (self.0 >> 33) as usize % bound
+    }
+
+    fn of<'a>(&mut self, choices: &[&'a str]) -> &'a str {
+        choices[self.below(choices.len())]
+    }
+}
+
+const WORDS: [&str; 30] = [
+    "*", "+", "-", "/", "<", "<=", "=", ">", ">=", "and", "or", "xor", "count_ones", "leading_zeros", "trailing_zeros",
+    "rotate_left", "rotate_right", "shift_left", "shift_right", "copy", "drop", "jump", "jump_if", "call", "call_either", "return",
+    "assert", "yield", "read", "write",
+];
+const NAMES: [&str; 6] = ["differential", "loop", "next_hole", "par", "slope", "best_of"];
+
+/// Tokens of all kinds, with comments, as a club's script has them.
+fn mixed(length: usize, seed: u64) -> String {
+    let mut numbers = Numbers(seed);
+    let mut text = String::new();
+    while text.len() < length {
+        match numbers.below(16) {
+            0 => text.push_str(&format!("{}{}:", numbers.of(&NAMES), numbers.below(40))),
+            1 | 2 => text.push_str(&format!("@{}{}", numbers.of(&NAMES), numbers.below(40))),
+            3..=7 => text.push_str(&format!("{}", numbers.below(2000) as i32 - 500)),
+            8 => text.push_str(&format!("0x{:x}", numbers.below(1 << 30))),
+            9 => text.push_str("# the stroke index is at most the rest\n"),
+            _ => text.push_str(numbers.of(&WORDS)),
+        }
+        text.push_str(numbers.of(&[" ", " ", " ", "\n", "\n    "]));
+    }
+    cut(text, length)
+}
+
+fn cut(mut text: String, length: usize) -> String {
+    let end = (0..=length).rev().find(|&end| text.is_char_boundary(end)).unwrap_or(0);
+    text.truncate(end);
+    text
+}
+
+pub struct Texts {
+    pub name: &'static str,
+    pub texts: Vec<String>,
+}
+
+const SIZE: usize = 60_000;
+
+pub fn texts() -> Vec<Texts> {
+    let mut numbers = Numbers(5);
+    let scripts = (0..100).map(|seed| mixed(200 + numbers.below(1800), seed)).collect();
+    let comments = "# Half up means towards the larger number, also below zero.\n    1 drop\n".repeat(1000);
+    let characters = "größe 差点 パー 🏌 é\u{3000}Ärger\u{A0}@größe # 最高の八つ\n".repeat(1500);
+    vec![
+        Texts { name: "60 kB of mixed tokens", texts: vec![mixed(SIZE, 1)] },
+        Texts { name: "100 scripts of 200 to 2,000 bytes", texts: scripts },
+        Texts { name: "60 kB of comments", texts: vec![cut(comments, SIZE)] },
+        Texts { name: "60 kB of multi-byte characters", texts: vec![cut(characters, SIZE)] },
+    ]
+}
+
+pub fn mixed_text(length: usize) -> String {
+    mixed(length, 1)
+}
+
+pub struct Run {
+    pub name: String,
+    pub text: String,
+}
+
+fn run(name: impl Into<String>, text: impl Into<String>) -> Run {
+    Run { name: name.into(), text: text.into() }
+}
+
+/// A loop's body, repeated.
+fn repeated(times: u32, body: &str) -> String {
+    format!("{times} loop: {body} 1 - 0 copy @loop jump_if")
+}
+
+pub fn runs() -> Vec<Run> {
+    let arithmetic = "7 * 3 + 2 / - 5 xor 100 < 3 or 1 and 17 > 9 -";
+    let long = "3 rotate_left count_ones leading_zeros trailing_zeros 5 rotate_right 2 shift_left 1 shift_right";
+    let labels = labels(49);
+    let mut rows = vec![
+        run("counting loop", counting_loop()),
+        run("calls and returns", format!("{} return f: return", repeated(4_000, "@f call 1 @f @f call_either"))),
+        run("reads and writes", repeated(3_000, "5 7 read 1 + write 7 5 read write")),
+        run("arithmetic", repeated(1_500, &format!("9 {arithmetic} 0 drop"))),
+        run("long-named words", repeated(1_500, &format!("9 {long} 0 drop"))),
+        run("the label is the 1st of 50", format!("{} {labels}", repeated(8_000, ""))),
+        run("the label is the 50th", format!("{labels} {}", repeated(8_000, ""))),
+    ];
+    rows.extend([20, 50, 100, 300].map(straight));
+    rows
+}
+
+/// Labels with names as long as that of a loop.
+pub fn labels(count: usize) -> String {
+    (0..count).map(|place| format!("l{place:03}: ")).collect()
+}
+
+pub fn counting_loop() -> String {
+    repeated(10_000, "")
+}
+
+/// Operators that are met once each, as in a short rule for one card.
+pub fn straight(count: usize) -> Run {
+    let body = "12 read 713 - 113 * 130 / 0 < - 3 and 0 drop".split(' ');
+    let tokens: Vec<&str> = body.cycle().take(count).collect();
+    run(format!("straight line, {count} operators"), tokens.join(" "))
+}
+
+/// The scripts in examples/.
+pub fn examples() -> Vec<Run> {
+    let folder = concat!(env!("CARGO_MANIFEST_DIR"), "/../../examples");
+    let names = ["differential", "best_of", "stableford"];
+    let read = |name: &str| std::fs::read_to_string(format!("{folder}/{name}.stack")).expect("the example is there");
+    names.iter().map(|name| run(format!("examples/{name}.stack"), read(name))).collect()
+}

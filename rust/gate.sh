@@ -1,0 +1,20 @@
+#!/bin/sh
+# The gate's part in Rust: the tests of the host crate and of the model, the examples, the fixed list, and the comparison with
+# the Rust for about as many seconds as $1 says (default: 120). What is not at hand is left out, and said.
+set -eu
+cd "$(dirname "$0")"
+if ! command -v cargo > /dev/null; then
+    echo "cargo is not at hand: nothing is compared with the Rust"
+    exit 0
+fi
+(cd .. && rt staticlib stack_assembly_c)
+cargo test --offline --quiet -p stack-assembly -p model
+if ! oracle/import.sh; then
+    echo "the Rust's sources are not at hand: nothing is compared with the Rust"
+    exit 0
+fi
+cargo test --offline --quiet -p oracle
+cargo build --offline --quiet --release -p comparison
+target/release/comparison --examples ../examples
+target/release/comparison --recorded ../crates/recorded/data
+target/release/comparison --seconds "${1:-120}"
