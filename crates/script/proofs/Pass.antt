@@ -16,7 +16,7 @@ use Rattle.kinds.specs.Numbers.{orElse, i32OrU32}
 use Rattle.kinds.specs.Kinds.{Kind, label, reference, integer, identifier, endsInColon, beginsWithAt, hexadecimal, integerOr, kindOf}
 use Rattle.kinds.specs.Answers.{kindAnswer}
 use Rattle.stack_assembly.specs.Script.{Operator, Label, operator, operatorThen, labelThen, operatorsOf, labelsOf, scriptOf, operatorWords, labelWords}
-use Rattle.script.specs.Private.{kindWord, valueWord, put, puts, countedOf, Passes}
+use Rattle.script.specs.Private.{kindWord, valueWord, recordOf, put, puts, countedOf, Passes}
 use Rattle.script.proofs.Tables.{put-length}
 
 -- what a text has of records from an offset on, of which n operators stand before it
@@ -114,26 +114,32 @@ module _ {text : List ℕ} {from start end next : ℕ} (f : FoundAt text from st
             labelTable = rw e (rw (label-labels n) at (v .labelTable));
           }
 
-  module _ {k : answer.Kind} (told : k ≡ kindAnswer (kindOf (take (end - start) (drop start text)))) (colon : endsInColon (take (end - start) (drop start text)) ≡ false) where
+  module _ (colon : endsInColon (take (end - start) (drop start text)) ≡ false) where
+    abbrev k : answer.Kind
+    k = kindAnswer (kindOf (take (end - start) (drop start text)))
+
+    abbrev words : List ℕ
+    words = recordOf (take (end - start) (drop start text)) start end
+
     is-operator : IsOperator (kindOf (slice start end text))
     is-operator = no-colon (slice start end text) (rw (← between start end text) colon)
 
     other-operators : operatorsLeft text from ≡ operator (kindWord k) start end (valueWord k) ∷ operatorsLeft text next
     unfolding operatorsOf
-    other-operators = ap (operatorsOf text) (f .tokens) ∙ rw (told, between start end text) (operator-of (kindOf (slice start end text)) _ _ is-operator)
+    other-operators = ap (operatorsOf text) (f .tokens) ∙ rw (between start end text) (operator-of (kindOf (slice start end text)) _ _ is-operator)
 
     other-labels : (n : ℕ) → labelsLeft text n from ≡ labelsLeft text (n + 1) next
     unfolding labelsOf
     other-labels n = ap (labelsOf text n) (f .tokens) ∙ no-label-of (kindOf (slice start end text)) _ n _ is-operator
 
     module _ {operators₀ labels₀ operators operators′ labels : List ℕ} {n m : ℕ} (v : Passing text operators₀ labels₀ operators labels from n m) where
-      pub passing-operator : operators′ ≡ put 4 operators n (kindWord k ∷ start ∷ end ∷ valueWord k ∷ []) → Passing text operators₀ labels₀ operators′ labels next (n + 1) m
+      pub passing-operator : operators′ ≡ put 4 operators n words → Passing text operators₀ labels₀ operators′ labels next (n + 1) m
       unfolding puts
       passing-operator e =
           record {
             few = omega (arith, v .few, f .first, f .some, f .ends);
             inside = f .inside;
-            operatorRoom = ap length e ∙ put-length 4 n operators (kindWord k ∷ start ∷ end ∷ valueWord k ∷ []) ∙ v .operatorRoom;
+            operatorRoom = ap length e ∙ put-length 4 n operators words ∙ v .operatorRoom;
             labelRoom = v .labelRoom;
             illFormed = sym (f .illFormed) ∙ v .illFormed;
             operatorCount = omega (arith, ap length other-operators, v .operatorCount);

@@ -10,6 +10,8 @@ use lib.Seq.{sets}
 use Rattle.utf8.specs.Utf8.{chars, illFormedAt}
 use Rattle.kinds.specs.declared.kinds.Kind.{Kind}
 use Rattle.kinds.specs.declared.kinds.Kind.the-variants.{Label, Reference, Integer, Identifier}
+use Rattle.kinds.specs.Kinds.{kindOf}
+use Rattle.kinds.specs.Answers.{kindAnswer}
 use Rattle.stack_assembly.specs.Script.{scriptOf, operatorWords, labelWords}
 use Rattle.script.specs.declared.records.Counted.{Counted}
 use Rattle.script.specs.declared.records.Counted.the-variants.{IllFormed, Records}
@@ -26,6 +28,12 @@ valueWord Label = 0
 valueWord Reference = 0
 valueWord (Integer bits) = bits
 valueWord Identifier = 0
+
+-- The words of a token's record as an operator.
+abbrev pub recordOf : (token : List ℕ) (start end : ℕ) → List ℕ
+recordOf token start end =
+    let k : Kind = kindAnswer (kindOf token) in
+    kindWord k ∷ start ∷ end ∷ valueWord k ∷ []
 
 -- A record of so many words at its place in the table, where that is in the table.
 unfoldable pub put : (width : ℕ) (table : List ℕ) (index : ℕ) (words : List ℕ) → List ℕ

@@ -8,7 +8,7 @@ ghost use mathlib.Core.List.{[], _∷_};
 ghost use mathlib.Core.Path.{_≡_};
 ghost use Prim.Native.Nat.{_≤_};
 ghost use lib.ListN.{length};
-ghost use Rattle.script.specs.Private.{put, kindWord, valueWord, Passes};
+ghost use Rattle.script.specs.Private.{put, kindWord, valueWord, recordOf, Passes};
 
 // How many records there are, or where the text is ill-formed.
 pub(crate) enum Counted {
@@ -38,12 +38,14 @@ fn value_word(kind: Kind) -> u32
     }
 }
 
-fn put_operator(table: &mut [u32], index: usize, kind: Kind, start: usize, end: usize)
+// The kind is found only where there is room: a pass that counts never needs it.
+fn put_operator(table: &mut [u32], index: usize, token: &[u8], start: usize, end: usize)
     requires { ⌜ (index ≤ 65535) × ((start ≤ 65535) × (end ≤ 65535)) ⌝ }
-    ensures { λ _. ⌜ now (table .exit) ≡ put 4 (now (table .entry)) index (kindWord kind ∷ start ∷ end ∷ valueWord kind ∷ []) ⌝ }
+    ensures { λ _. ⌜ now (table .exit) ≡ put 4 (now (table .entry)) index (recordOf (now (token .entry)) start end) ⌝ }
 {
     let at = index * 4;
     if at + 4 <= table.len() {
+        let kind = kind_of(token);
         table[at] = kind_word(kind);
         table[at + 1] = start as u32;
         table[at + 2] = end as u32;
@@ -63,7 +65,7 @@ fn put_label(table: &mut [u32], index: usize, start: usize, end: usize, operator
     }
 }
 
-// The calls of read_token and kind_of stand here alone: the compiler inlines them only then.
+// The only call of read_token, and the only one of kind_of above: the compiler inlines them for that.
 pub(crate) fn pass(text: &[u8], operators: &mut [u32], labels: &mut [u32]) -> Counted
     requires { ⌜ length (now text) ≤ 65535 ⌝ }
     ensures { λ r. ⌜ Passes (now (text .entry)) (now (operators .entry)) (now (labels .entry)) r (now (operators .exit)) (now (labels .exit)) ⌝ }
@@ -89,7 +91,7 @@ pub(crate) fn pass(text: &[u8], operators: &mut [u32], labels: &mut [u32]) -> Co
                     put_label(labels, label_count, start, end - 1, operator_count);
                     label_count += 1;
                 } else {
-                    put_operator(operators, operator_count, kind_of(token), start, end);
+                    put_operator(operators, operator_count, token, start, end);
                     operator_count += 1;
                 }
             }

@@ -93,24 +93,21 @@ loop-again c =
     let colon = sym (at-is-label .is-label .ensures) ∙ c .before .before .before .before .if1 .taken in
     passing-label (found at-start) colon (at-start .before .before .before .loop .inv) (c .before .before .put-label .ensures)
 
-kind-of-requires : tie.Need-kind-of-requires Inv-loop μ-loop
-kind-of-requires c κs = search needs
-
 put-operator-requires : tie.Need-put-operator-requires Inv-loop μ-loop
-put-operator-requires c κs = omega (arith, found (c .before .before .before .before .before .before))
+put-operator-requires c κs = omega (arith, found (c .before .before .before .before .before))
 
 add-operator-count : tie.Need-add-operator-count Inv-loop μ-loop
 add-operator-count c = search needs
 
 loop-less-2 : tie.Need-loop-less-2 Inv-loop μ-loop
-loop-less-2 c = omega (arith, found (c .before .before .before .before .before .before .before .before .before))
+loop-less-2 c = omega (arith, found (c .before .before .before .before .before .before .before .before))
 
 loop-again-2 : tie.Need-loop-again-2 Inv-loop μ-loop
 loop-again-2 c =
-    let at-is-label = c .before .before .before .before .before .before in
+    let at-is-label = c .before .before .before .before .before in
     let at-start = at-is-label .before .before .before in
-    let no-colon = sym (at-is-label .is-label .ensures) ∙ c .before .before .before .before .before .if1 .left in
-    passing-operator (found at-start) (c .before .before .before .kind-of .ensures) no-colon (at-start .before .before .before .loop .inv) (c .before .before .put-operator .ensures)
+    let no-colon = sym (at-is-label .is-label .ensures) ∙ c .before .before .before .before .if1 .left in
+    passing-operator (found at-start) no-colon (at-start .before .before .before .loop .inv) (c .before .before .put-operator .ensures)
 
 pub pass-spec : {M : Type 1} → statement M
 pass-spec =
@@ -138,7 +135,6 @@ pass-spec =
     add-label-count
     loop-less
     loop-again
-    kind-of-requires
     put-operator-requires
     add-operator-count
     loop-less-2

@@ -12,6 +12,9 @@ mul-at c = search needs
 add-if1 : tie.Need-add-if1
 add-if1 c = search needs
 
+kind-of-requires : tie.Need-kind-of-requires
+kind-of-requires c κs = search needs
+
 kind-word-requires : tie.Need-kind-word-requires
 kind-word-requires c κs = search needs
 
@@ -61,7 +64,7 @@ same-length : tie.Need-same-length
 same-length c = search needs
 
 returns : tie.Need-returns
-returns c = put-fits 4 _ _ _ (omega arith) (rw (← c .before .kind-word .ensures, ← c .value-word .ensures) (simp towards-suc))
+returns c = put-fits 4 _ _ _ (omega arith) (rw (← c .before .before .kind-of .ensures, ← c .before .kind-word .ensures, ← c .value-word .ensures) (simp towards-suc))
 
 returns-2 : tie.Need-returns-2
 returns-2 c = put-past 4 _ _ _ (omega arith)
@@ -72,6 +75,7 @@ put-operator-spec =
     (tie.spec
     mul-at
     add-if1
+    kind-of-requires
     kind-word-requires
     mul-table
     slice-write-table
