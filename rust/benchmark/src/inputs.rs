@@ -52,14 +52,17 @@ pub struct Texts {
 
 const SIZE: usize = 60_000;
 
-pub fn texts() -> Vec<Texts> {
+pub fn scripts(name: &'static str) -> Texts {
     let mut numbers = Numbers(5);
-    let scripts = (0..100).map(|seed| mixed(200 + numbers.below(1800), seed)).collect();
+    Texts { name, texts: (0..100).map(|seed| mixed(200 + numbers.below(1800), seed)).collect() }
+}
+
+pub fn texts() -> Vec<Texts> {
     let comments = "# Half up means towards the larger number, also below zero.\n    1 drop\n".repeat(1000);
     let characters = "größe 差点 パー 🏌 é\u{3000}Ärger\u{A0}@größe # 最高の八つ\n".repeat(1500);
     vec![
         Texts { name: "60 kB of mixed tokens", texts: vec![mixed(SIZE, 1)] },
-        Texts { name: "100 scripts of 200 to 2,000 bytes", texts: scripts },
+        scripts("100 scripts of 200 to 2,000 bytes"),
         Texts { name: "60 kB of comments", texts: vec![cut(comments, SIZE)] },
         Texts { name: "60 kB of multi-byte characters", texts: vec![cut(characters, SIZE)] },
     ]

@@ -24,7 +24,8 @@ pub enum Unit {
 const BLOCK: u64 = 20_000;
 
 pub fn rows() -> Vec<Row> {
-    let mut rows: Vec<Row> = inputs::texts().into_iter().map(compile_row).collect();
+    let mut rows: Vec<Row> = inputs::texts().into_iter().map(|texts| compile_row(texts, Engine::new)).collect();
+    rows.push(compile_row(inputs::scripts("100 scripts, tables of exactly their size"), Engine::with_exact_tables));
     rows.extend(inputs::runs().into_iter().chain(inputs::examples()).map(run_row));
     rows.extend([20, 100, 300].map(|count| card_row(&inputs::straight(count))));
     rows.push(step_row());
@@ -37,10 +38,10 @@ fn timed(units: u64, work: impl FnOnce()) -> f64 {
     begun.elapsed().as_nanos() as f64 / units as f64
 }
 
-fn compile_row(texts: Texts) -> Row {
+fn compile_row(texts: Texts, engine: fn(&str) -> Engine) -> Row {
     let bytes = texts.texts.iter().map(|text| text.len() as u64).sum();
     let rust: Vec<Rust> = texts.texts.iter().map(|text| Rust::new(text)).collect();
-    let mut engine: Vec<Engine> = texts.texts.iter().map(|text| Engine::new(text)).collect();
+    let mut engine: Vec<Engine> = texts.texts.iter().map(|text| engine(text)).collect();
     Row {
         name: format!("compile {}", texts.name),
         unit: Unit::Byte,

@@ -39,6 +39,14 @@ impl Engine {
         engine
     }
 
+    /// With tables that have no room for more than the script's records.
+    pub fn with_exact_tables(text: &str) -> Engine {
+        let mut engine = Engine::new(text);
+        engine.operators.truncate(4 * engine.counts.0);
+        engine.labels.truncate(3 * engine.counts.1);
+        engine
+    }
+
     pub fn compile(&mut self) {
         let out = boundary::compile(black_box(&self.text), &mut self.operators, &mut self.labels);
         self.counts = (out[2] as usize, out[3] as usize);
