@@ -1,18 +1,18 @@
 -- What compile answers, and both tables after it, by the tests that lead there.
 use Prim.Native.Nat.{ℕ, suc, _/_, _≤_, _<_}
 use mathlib.Core.List.{List, [], _++_}
-use mathlib.Core.Option.{Option, none, some}
+use mathlib.Core.Option.{Option, none, some, Option·none-ne-some}
 use mathlib.Core.Path.{_≡_, refl, sym, subst, _∙_}
 use native.Mathlib.Omega.{arith}
 use borrow.Author.Tests.{lt-ltb, le-ltb}
 use lib.ListN.{length}
 use Rattle.utf8.specs.Utf8.{chars, illFormedAt}
-use Rattle.stack_assembly.specs.Script.{CompileAnswer, scriptOf, operatorCapacity, labelCapacity, operatorWords, labelWords, operatorIn, labelIn, rejected, accepted, longest, fitted, checked, compileAnswer, compile}
+use Rattle.stack_assembly.specs.Script.{CompileAnswer, Compilation, scriptOf, operatorCapacity, labelCapacity, operatorWords, labelWords, operatorIn, labelIn, rejected, accepted, longest, fitted, checked, compileAnswer, compile}
 use Rattle.stack_assembly.specs.Promise.{Compiles}
 use Rattle.stack_assembly.proofs.Records.{words-length}
 use Rattle.script.specs.declared.records.Counted.{Counted}
 use Rattle.script.specs.declared.records.Counted.the-variants.{IllFormed, Records}
-use Rattle.script.specs.Private.{countedOf, Passes}
+use Rattle.script.specs.Private.{countedOf, Passes, Accepts}
 use Rattle.script.proofs.Tables.{puts-none, puts-all}
 
 -- what a pass tells
@@ -44,6 +44,24 @@ module _ (text operators labels : List ℕ) where
     not-long : answered ≡ checked (illFormedAt (chars text)) (fitted (operatorCapacity operators) (labelCapacity labels) (length (scriptOf text .operators)) (length (scriptOf text .labels)))
     unfolding compileAnswer
     not-long = rw (le-ltb longest (length text) short)
+
+    -- a pass that writes
+    module _ (a : Accepts text operators labels) {r : Counted} {operators′ labels′ : List ℕ} (p : Passes text operators labels r operators′ labels′) where
+      pub never-ill-formed : {at : ℕ} → r ≡ IllFormed at → ⊥
+      never-ill-formed {at} e =
+          let broken : illFormedAt (chars text) ≡ some at = told _ _ _ (sym e ∙ p .answer) in
+          Option·none-ne-some at (sym (a .wellFormed) ∙ broken)
+
+      pub written : {n m : ℕ} → r ≡ Records n m → Compiles text operators labels (record { answer = accepted n m; operators = operators′; labels = labels′ })
+      unfolding compile
+      written {n} {m} e =
+          let counts : Told (illFormedAt (chars text)) (length (scriptOf text .operators)) (length (scriptOf text .labels)) (Records n m) = told _ _ _ (sym e ∙ p .answer) in
+          let answer : answered ≡ accepted n m =
+          not-long ∙ rw (counts .0, ← counts .1, ← counts .2, le-ltb (length operators / 4) n (omega (arith, counts .1, a .operatorsFit)), le-ltb (length labels / 3) m (omega (arith, counts .2, a .labelsFit)))
+          in
+          let os = p .operatorTable ∙ puts-all operatorWords 4 (λ _. refl) (scriptOf text .operators) operators (omega (arith, a .operatorsFit, words-length 4 operatorWords operatorIn (λ _. refl) (λ _. refl) (scriptOf text .operators))) in
+          let ls = p .labelTable ∙ puts-all labelWords 3 (λ _. refl) (scriptOf text .labels) labels (omega (arith, a .labelsFit, words-length 3 labelWords labelIn (λ _. refl) (λ _. refl) (scriptOf text .labels))) in
+          rw (answer, os, ls)
 
     -- a pass that counts
     module _ {r : Counted} {noOperators noLabels : List ℕ} (p : Passes text [] [] r noOperators noLabels) where
@@ -79,14 +97,9 @@ module _ (text operators labels : List ℕ) where
           too-many-labels h =
               refused 23 m (counted ∙ rw (le-ltb (length operators / 4) n operators-fit, lt-ltb (length labels / 3) m (rw labels-kept at h))) operators-kept labels-kept
 
-          -- and one that writes
-          pub all-fit : m ≤ length (noLabels ++ labels) / 3 → {r′ : Counted} {operators′ labels′ : List ℕ}
-              → Passes text (noOperators ++ operators) (noLabels ++ labels) r′ operators′ labels′
-              → Compiles text operators labels (record { answer = accepted n m; operators = operators′; labels = labels′ })
-          unfolding compile
-          all-fit h q =
-              let labels-fit : m ≤ length labels / 3 = rw labels-kept at h in
-              let e : answered ≡ accepted n m = counted ∙ rw (le-ltb (length operators / 4) n operators-fit, le-ltb (length labels / 3) m labels-fit) in
-              let os = rw operators-kept at (q .operatorTable) ∙ puts-all operatorWords 4 (λ _. refl) (scriptOf text .operators) operators (omega (arith, counts .1, operators-fit, words-length 4 operatorWords operatorIn (λ _. refl) (λ _. refl) (scriptOf text .operators))) in
-              let ls = rw labels-kept at (q .labelTable) ∙ puts-all labelWords 3 (λ _. refl) (scriptOf text .labels) labels (omega (arith, counts .2, labels-fit, words-length 3 labelWords labelIn (λ _. refl) (λ _. refl) (scriptOf text .labels))) in
-              rw (e, os, ls)
+          module _ (labels-fit : m ≤ length (noLabels ++ labels) / 3) where
+            pub accepts : Accepts text (noOperators ++ operators) (noLabels ++ labels)
+            accepts = record { wellFormed = counts .0; operatorsFit = rw (← counts .1) fits; labelsFit = rw (← counts .2) labels-fit }
+
+            pub kept : {w : Compilation} → Compiles text (noOperators ++ operators) (noLabels ++ labels) w → Compiles text operators labels w
+            kept h = rw (operators-kept, labels-kept) at h

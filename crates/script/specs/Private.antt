@@ -1,5 +1,5 @@
 -- What the private functions ask and promise; no public contract cites it.
-use Prim.Native.Nat.{ℕ, _+_, _*_}
+use Prim.Native.Nat.{ℕ, _+_, _*_, _≤_}
 use mathlib.Core.Bool.{cond}
 use mathlib.Core.List.{List, [], _∷_, map}
 use mathlib.Core.Option.{Option, none, some}
@@ -12,7 +12,7 @@ use Rattle.kinds.specs.declared.kinds.Kind.{Kind}
 use Rattle.kinds.specs.declared.kinds.Kind.the-variants.{Label, Reference, Integer, Identifier}
 use Rattle.kinds.specs.Kinds.{kindOf}
 use Rattle.kinds.specs.Answers.{kindAnswer}
-use Rattle.stack_assembly.specs.Script.{scriptOf, operatorWords, labelWords}
+use Rattle.stack_assembly.specs.Script.{scriptOf, operatorWords, labelWords, operatorCapacity, labelCapacity}
 use Rattle.script.specs.declared.records.Counted.{Counted}
 use Rattle.script.specs.declared.records.Counted.the-variants.{IllFormed, Records}
 
@@ -54,3 +54,9 @@ pub record Passes (text operators labels : List ℕ) (r : Counted) (operators′
   pub answer : r ≡ countedOf (illFormedAt (chars text)) (length (scriptOf text .operators)) (length (scriptOf text .labels))
   pub operatorTable : operators′ ≡ puts 4 operators 0 (map operatorWords (scriptOf text .operators))
   pub labelTable : labels′ ≡ puts 3 labels 0 (map labelWords (scriptOf text .labels))
+
+-- A well-formed text, with room for its records in both tables.
+pub record Accepts (text operators labels : List ℕ) : Type 0 where
+  pub wellFormed : illFormedAt (chars text) ≡ none
+  pub operatorsFit : length (scriptOf text .operators) ≤ operatorCapacity operators
+  pub labelsFit : length (scriptOf text .labels) ≤ labelCapacity labels

@@ -1,8 +1,14 @@
 // Compile: a text's records, in tables that the caller lends.
 use crate::records::Counted;
 use crate::records::pass;
+use utf8::is_ascii;
+ghost use mathlib.Core.Bool.{true};
+ghost use mathlib.Core.Path.{_≡_};
+ghost use Prim.Native.Nat.{_≤_};
+ghost use lib.ListN.{length};
 ghost use Rattle.stack_assembly.specs.Promise.{Compiles};
 ghost use Rattle.script.specs.Answers.{compiledAnswer};
+ghost use Rattle.script.specs.Private.{Accepts};
 
 // How many records the tables hold.
 pub struct Script {
@@ -18,11 +24,43 @@ pub enum Compiled {
     Accepted(Script),
 }
 
+// Whether no count is needed to see that the text is accepted.
+fn is_surely_accepted(text: &[u8], operators: &[u32], labels: &[u32]) -> bool
+    requires { ⌜ length (now text) ≤ 65535 ⌝ }
+    ensures { λ r. ⌜ (r ≡ true → Accepts (now (text .entry)) (now (operators .entry)) (now (labels .entry))) ⌝ }
+{
+    // Each token has a byte, and another parts it from the next.
+    let most = (text.len() + 1) / 2;
+    if (operators.len() / 4 < most) | (labels.len() / 3 < most) {
+        return false;
+    }
+    is_ascii(text)
+}
+
+fn write_records(text: &[u8], operators: &mut [u32], labels: &mut [u32]) -> Compiled
+    requires { ⌜ (length (now text) ≤ 65535) × Accepts (now text) (now operators) (now labels) ⌝ }
+    ensures { λ r. ⌜ Compiles (now (text .entry)) (now (operators .entry)) (now (labels .entry)) (record { answer = compiledAnswer r; operators = now (operators .exit); labels = now (labels .exit) }) ⌝ }
+{
+    match pass(text, operators, labels) {
+        Counted::IllFormed(at) => Compiled::IllFormed(at),
+        Counted::Records {
+            operators: n,
+            labels: m,
+        } => Compiled::Accepted(Script {
+            operators: n,
+            labels: m,
+        }),
+    }
+}
+
 pub fn compile(text: &[u8], operators: &mut [u32], labels: &mut [u32]) -> Compiled
     ensures { λ r. ⌜ Compiles (now (text .entry)) (now (operators .entry)) (now (labels .entry)) (record { answer = compiledAnswer r; operators = now (operators .exit); labels = now (labels .exit) }) ⌝ }
 {
     if 65535 < text.len() {
         return Compiled::TooLong;
+    }
+    if is_surely_accepted(text, operators, labels) {
+        return write_records(text, operators, labels);
     }
     // Nothing fits in an empty table: the first pass counts.
     match pass(text, &mut operators[..0], &mut labels[..0]) {
@@ -37,11 +75,7 @@ pub fn compile(text: &[u8], operators: &mut [u32], labels: &mut [u32]) -> Compil
             if labels.len() / 3 < m {
                 return Compiled::TooManyLabels(m);
             }
-            pass(text, operators, labels);
-            Compiled::Accepted(Script {
-                operators: n,
-                labels: m,
-            })
+            write_records(text, operators, labels)
         }
     }
 }

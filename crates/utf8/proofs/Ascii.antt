@@ -1,15 +1,19 @@
 -- A character whose first byte is below 0x80 is that byte; any other is 0x80 or more. The second is a property of each row of table 3-7, and one computed
--- test shows it of all.
-use Prim.Native.Nat.{ℕ, zero, suc, _-_, _*_, _+_, _%_, _≤_}
-use mathlib.Core.Bool.{Bool, true, false, cond, _&&_, _||_}
+-- test shows it of all. A text of bytes below 0x80 alone is well-formed.
+use Prim.Native.Nat.{ℕ, zero, suc, _-_, _*_, _+_, _%_, _≤_, _<_}
+use mathlib.Core.Bool.{Bool, true, false, cond, _&&_, _||_, and-assoc, and-true}
 use mathlib.Core.List.{List, [], _∷_}
-use mathlib.Core.Path.{_≡_, refl, subst}
+use mathlib.Core.Option.{none}
+use mathlib.Core.Path.{_≡_, refl, sym, ap, subst, _∙_}
 use native.Mathlib.Omega.{arith}
-use borrow.Author.Tests.{leb-true, ltb-true}
+use borrow.Author.Tests.{leb-true, le-leb, lt-ltb, le-ltb, ltb-true, ltb-false}
+use lib.Bits.{bitOr, bitAnd, or-lt, or-add-and, and-le-l, and-le-r}
 use lib.Dec.{leb, ltb}
-use lib.ListN.{getD}
+use lib.ListN.{length, getD, drop, drop-of-length-le}
+use lib.Seq.{drop-cons}
 use Rattle.base.specs.Ranges.{within}
-use Rattle.utf8.specs.Utf8.{Row, wellFormed, Front, nothing, illFormed, scalar, follow, led, front}
+use Rattle.utf8.specs.Utf8.{Row, wellFormed, Front, nothing, illFormed, scalar, follow, led, front, charsFrom, chars, illFormedAt}
+use Rattle.utf8.specs.Answers.{ascii}
 use Rattle.base.proofs.Tests.{both, within-true}
 
 abbrev Least : (n : ℕ) → Front → Type 0
@@ -75,3 +79,48 @@ front-least (b ∷ bytes) h = led-least b bytes wellFormed refl h
 
 pub wide-value : (bytes : List ℕ) {v w : ℕ} → 0x80 ≤ getD bytes 0 0 → front bytes ≡ scalar v w → 0x80 ≤ v
 wide-value bytes h e = subst (Least 0x80) e (front-least bytes h)
+
+-- ---- a text
+or-below : (a b : ℕ) → ltb (bitOr a b) 0x80 ≡ (ltb a 0x80 && ltb b 0x80)
+or-below a b = go (ltb a 0x80) refl (ltb b 0x80) refl
+  where
+    go : (s : Bool) → ltb a 0x80 ≡ s → (t : Bool) → ltb b 0x80 ≡ t → ltb (bitOr a b) 0x80 ≡ (s && t)
+    go true e true f = lt-ltb (bitOr a b) 0x80 (or-lt 7 a b (ltb-true a 0x80 e) (ltb-true b 0x80 f))
+    go true e false f = le-ltb (bitOr a b) 0x80 (omega (arith, ltb-false b 0x80 f, or-add-and a b, and-le-l a b))
+    go false e t f = le-ltb (bitOr a b) 0x80 (omega (arith, ltb-false a 0x80 e, or-add-and a b, and-le-r a b))
+
+-- the bytes before i have been seen
+pub record Seen (bytes : List ℕ) (seen i : ℕ) : Type 0 where
+  pub inside : i ≤ length bytes
+  pub left : (ltb seen 0x80 && ascii (drop i bytes)) ≡ ascii bytes
+
+module _ {bytes : List ℕ} {seen i : ℕ} (s : Seen bytes seen i) where
+  pub seen-one : i < length bytes → Seen bytes (bitOr seen (getD bytes i 0)) (i + 1)
+  unfolding ascii
+  seen-one h =
+      let next : i + 1 ≡ suc i = omega arith in
+      record {
+        inside = omega arith;
+        left =
+            rw (next, or-below seen (getD bytes i 0), and-assoc (ltb seen 0x80) (ltb (getD bytes i 0) 0x80) (ascii (drop (suc i) bytes)))
+            (rw (drop-cons bytes i 0 h) at (s .left));
+      }
+
+  pub seen-all : length bytes ≤ i → ltb seen 0x80 ≡ ascii bytes
+  unfolding ascii
+  seen-all h = sym (and-true (ltb seen 0x80)) ∙ (rw (drop-of-length-le bytes h) at (s .left))
+
+one-front : (b : ℕ) (bytes : List ℕ) → b < 0x80 → front (b ∷ bytes) ≡ scalar (b - 0) 1
+unfolding front led wellFormed follow
+one-front b bytes h = rw (le-leb 0 b (omega arith), le-leb b 0x7F (omega arith))
+
+well-formed-from : (at : ℕ) (bytes : List ℕ) → ascii bytes ≡ true → illFormedAt (charsFrom at 0 bytes) ≡ none
+unfolding ascii charsFrom illFormedAt
+well-formed-from at [] e = refl
+well-formed-from at (b ∷ bytes) e =
+    let p = both (ltb b 0x80) (ascii bytes) e in
+    rw (one-front b bytes (ltb-true b 0x80 (p .0))) (well-formed-from (at + 1) bytes (p .1))
+
+pub ascii-well-formed : (text : List ℕ) → ascii text ≡ true → illFormedAt (chars text) ≡ none
+unfolding chars
+ascii-well-formed text e = well-formed-from 0 text e
