@@ -1,19 +1,20 @@
 -- What compile answers, and both tables after it, by the tests that lead there.
-use Prim.Native.Nat.{ℕ, suc, _/_, _≤_, _<_}
-use mathlib.Core.List.{List, [], _++_}
+use Prim.Native.Nat.{ℕ, suc, _*_, _/_, _≤_, _<_}
+use mathlib.Core.List.{List, _++_, flatMap}
 use mathlib.Core.Option.{Option, none, some, Option·none-ne-some}
 use mathlib.Core.Path.{_≡_, refl, sym, subst, _∙_}
 use native.Mathlib.Omega.{arith}
 use borrow.Author.Tests.{lt-ltb, le-ltb}
-use lib.ListN.{length}
+use lib.ListN.{length, take, drop}
+use lib.Seq.{sets}
 use Rattle.utf8.specs.Utf8.{chars, illFormedAt}
-use Rattle.stack_assembly.specs.Script.{CompileAnswer, Compilation, scriptOf, operatorCapacity, labelCapacity, operatorWords, labelWords, operatorIn, labelIn, rejected, accepted, longest, fitted, checked, compileAnswer, compile}
+use Rattle.stack_assembly.specs.Script.{CompileAnswer, scriptOf, operatorCapacity, labelCapacity, operatorWords, labelWords, operatorTable, labelTable, operatorIn, labelIn, rejected, accepted, longest, fitted, checked, compileAnswer, compile}
 use Rattle.stack_assembly.specs.Promise.{Compiles}
 use Rattle.stack_assembly.proofs.Records.{words-length}
 use Rattle.script.specs.declared.records.Counted.{Counted}
 use Rattle.script.specs.declared.records.Counted.the-variants.{IllFormed, Records}
 use Rattle.script.specs.Private.{countedOf, Passes, Accepts}
-use Rattle.script.proofs.Tables.{puts-none, puts-all}
+use Rattle.script.proofs.Tables.{puts-all, puts-copied}
 
 -- what a pass tells
 abbrev Told : (illFormedAt : Option ℕ) (operators labels : ℕ) → Counted → Type 0
@@ -45,37 +46,44 @@ module _ (text operators labels : List ℕ) where
     unfolding compileAnswer
     not-long = rw (le-ltb longest (length text) short)
 
-    -- a pass that writes
-    module _ (a : Accepts text operators labels) {r : Counted} {operators′ labels′ : List ℕ} (p : Passes text operators labels r operators′ labels′) where
-      pub never-ill-formed : {at : ℕ} → r ≡ IllFormed at → ⊥
-      never-ill-formed {at} e =
-          let broken : illFormedAt (chars text) ≡ some at = told _ _ _ (sym e ∙ p .answer) in
-          Option·none-ne-some at (sym (a .wellFormed) ∙ broken)
+    operator-words : length (flatMap operatorWords (scriptOf text .operators)) ≡ length (scriptOf text .operators) * 4
+    operator-words = words-length 4 operatorWords operatorIn (λ _. refl) (λ _. refl) (scriptOf text .operators)
 
-      pub written : {n m : ℕ} → r ≡ Records n m → Compiles text operators labels (record { answer = accepted n m; operators = operators′; labels = labels′ })
+    label-words : length (flatMap labelWords (scriptOf text .labels)) ≡ length (scriptOf text .labels) * 3
+    label-words = words-length 3 labelWords labelIn (λ _. refl) (λ _. refl) (scriptOf text .labels)
+
+    module _ (a : Accepts text operators labels) where
+      filled : {n m : ℕ} {operators′ labels′ : List ℕ} → n ≡ length (scriptOf text .operators) → m ≡ length (scriptOf text .labels)
+          → operators′ ≡ operatorTable (scriptOf text .operators) ++ drop (length (operatorTable (scriptOf text .operators))) operators
+          → labels′ ≡ labelTable (scriptOf text .labels) ++ drop (length (labelTable (scriptOf text .labels))) labels
+          → Compiles text operators labels (record { answer = accepted n m; operators = operators′; labels = labels′ })
       unfolding compile
-      written {n} {m} e =
-          let counts : Told (illFormedAt (chars text)) (length (scriptOf text .operators)) (length (scriptOf text .labels)) (Records n m) = told _ _ _ (sym e ∙ p .answer) in
-          let answer : answered ≡ accepted n m =
-          not-long ∙ rw (counts .0, ← counts .1, ← counts .2, le-ltb (length operators / 4) n (omega (arith, counts .1, a .operatorsFit)), le-ltb (length labels / 3) m (omega (arith, counts .2, a .labelsFit)))
+      filled {n} {m} x y os ls =
+          let e : answered ≡ accepted n m =
+          not-long ∙ rw (a .wellFormed, ← x, ← y, le-ltb (length operators / 4) n (omega (arith, x, a .operatorsFit)), le-ltb (length labels / 3) m (omega (arith, y, a .labelsFit)))
           in
-          let os = p .operatorTable ∙ puts-all operatorWords 4 (λ _. refl) (scriptOf text .operators) operators (omega (arith, a .operatorsFit, words-length 4 operatorWords operatorIn (λ _. refl) (λ _. refl) (scriptOf text .operators))) in
-          let ls = p .labelTable ∙ puts-all labelWords 3 (λ _. refl) (scriptOf text .labels) labels (omega (arith, a .labelsFit, words-length 3 labelWords labelIn (λ _. refl) (λ _. refl) (scriptOf text .labels))) in
-          rw (answer, os, ls)
+          rw (e, os, ls)
 
-    -- a pass that counts
-    module _ {r : Counted} {noOperators noLabels : List ℕ} (p : Passes text [] [] r noOperators noLabels) where
-      operators-kept : noOperators ++ operators ≡ operators
-      operators-kept = rw (p .operatorTable ∙ puts-none 4 0 _ (omega arith))
+      -- a pass that writes
+      module _ {r : Counted} {operators′ labels′ : List ℕ} (p : Passes text operators labels r operators′ labels′) where
+        pub never-ill-formed : {at : ℕ} → r ≡ IllFormed at → ⊥
+        never-ill-formed {at} e =
+            let broken : illFormedAt (chars text) ≡ some at = told _ _ _ (sym e ∙ p .answer) in
+            Option·none-ne-some at (sym (a .wellFormed) ∙ broken)
 
-      labels-kept : noLabels ++ labels ≡ labels
-      labels-kept = rw (p .labelTable ∙ puts-none 3 0 _ (omega arith))
+        pub written : {n m : ℕ} → r ≡ Records n m → Compiles text operators labels (record { answer = accepted n m; operators = operators′; labels = labels′ })
+        written {n} {m} e =
+            let counts : Told (illFormedAt (chars text)) (length (scriptOf text .operators)) (length (scriptOf text .labels)) (Records n m) = told _ _ _ (sym e ∙ p .answer) in
+            filled (counts .1) (counts .2)
+            (p .operatorTable ∙ puts-all operatorWords 4 (λ _. refl) (scriptOf text .operators) operators (omega (arith, a .operatorsFit, operator-words)))
+            (p .labelTable ∙ puts-all labelWords 3 (λ _. refl) (scriptOf text .labels) labels (omega (arith, a .labelsFit, label-words)))
 
-      pub ill-formed : {at : ℕ} → r ≡ IllFormed at
-          → Compiles text operators labels (record { answer = rejected 21 at; operators = noOperators ++ operators; labels = noLabels ++ labels })
+    -- a pass that writes to other tables
+    module _ {own₁ own₂ own₁′ own₂′ : List ℕ} {r : Counted} (p : Passes text own₁ own₂ r own₁′ own₂′) where
+      pub ill-formed : {at : ℕ} → r ≡ IllFormed at → Compiles text operators labels (record { answer = rejected 21 at; operators = operators; labels = labels })
       ill-formed {at} e =
           let broken : illFormedAt (chars text) ≡ some at = told _ _ _ (sym e ∙ p .answer) in
-          refused 20 at (not-long ∙ rw broken) operators-kept labels-kept
+          refused 20 at (not-long ∙ rw broken) refl refl
 
       module _ {n m : ℕ} (e : r ≡ Records n m) where
         counts : (illFormedAt (chars text) ≡ none) × (n ≡ length (scriptOf text .operators)) × (m ≡ length (scriptOf text .labels))
@@ -84,22 +92,21 @@ module _ (text operators labels : List ℕ) where
         counted : answered ≡ fitted (operatorCapacity operators) (labelCapacity labels) n m
         counted = not-long ∙ rw (counts .0, ← counts .1, ← counts .2)
 
-        pub too-many-operators : length (noOperators ++ operators) / 4 < n
-            → Compiles text operators labels (record { answer = rejected 23 n; operators = noOperators ++ operators; labels = noLabels ++ labels })
-        too-many-operators h = refused 22 n (counted ∙ rw (lt-ltb (length operators / 4) n (rw operators-kept at h))) operators-kept labels-kept
+        pub too-many-operators : length operators / 4 < n → Compiles text operators labels (record { answer = rejected 23 n; operators = operators; labels = labels })
+        too-many-operators h = refused 22 n (counted ∙ rw (lt-ltb (length operators / 4) n h)) refl refl
 
-        module _ (fits : n ≤ length (noOperators ++ operators) / 4) where
-          operators-fit : n ≤ length operators / 4
-          operators-fit = rw operators-kept at fits
+        module _ (operators-fit : n ≤ length operators / 4) where
+          pub too-many-labels : length labels / 3 < m → Compiles text operators labels (record { answer = rejected 24 m; operators = operators; labels = labels })
+          too-many-labels h = refused 23 m (counted ∙ rw (le-ltb (length operators / 4) n operators-fit, lt-ltb (length labels / 3) m h)) refl refl
 
-          pub too-many-labels : length (noLabels ++ labels) / 3 < m
-              → Compiles text operators labels (record { answer = rejected 24 m; operators = noOperators ++ operators; labels = noLabels ++ labels })
-          too-many-labels h =
-              refused 23 m (counted ∙ rw (le-ltb (length operators / 4) n operators-fit, lt-ltb (length labels / 3) m (rw labels-kept at h))) operators-kept labels-kept
+          module _ (labels-fit : m ≤ length labels / 3) where
+            pub accepts : Accepts text operators labels
+            accepts = record { wellFormed = counts .0; operatorsFit = rw (← counts .1) operators-fit; labelsFit = rw (← counts .2) labels-fit }
 
-          module _ (labels-fit : m ≤ length (noLabels ++ labels) / 3) where
-            pub accepts : Accepts text (noOperators ++ operators) (noLabels ++ labels)
-            accepts = record { wellFormed = counts .0; operatorsFit = rw (← counts .1) fits; labelsFit = rw (← counts .2) labels-fit }
-
-            pub kept : {w : Compilation} → Compiles text (noOperators ++ operators) (noLabels ++ labels) w → Compiles text operators labels w
-            kept h = rw (operators-kept, labels-kept) at h
+            pub copied : n * 4 ≤ length own₁′ → m * 3 ≤ length own₂′ → {operators′ labels′ : List ℕ}
+                → operators′ ≡ sets operators 0 (take (n * 4) own₁′) → labels′ ≡ sets labels 0 (take (m * 3) own₂′)
+                → Compiles text operators labels (record { answer = accepted n m; operators = operators′; labels = labels′ })
+            copied h k os ls =
+                filled accepts (counts .1) (counts .2)
+                (os ∙ puts-copied operatorWords 4 (λ _. refl) (scriptOf text .operators) own₁ operators (omega (arith, counts .1, operator-words)) h (omega arith) (p .operatorTable))
+                (ls ∙ puts-copied labelWords 3 (λ _. refl) (scriptOf text .labels) own₂ labels (omega (arith, counts .2, label-words)) k (omega arith) (p .labelTable))

@@ -6,8 +6,8 @@ use native.Mathlib.Nat.{add-zero, zero-add, zero-mul, add-mul}
 use native.Mathlib.Omega.{arith}
 use borrow.Author.Tests.{le-leb, lt-leb}
 use lib.Dec.{leb}
-use lib.ListN.{length, drop, set, length-append}
-use lib.Seq.{sets, sets-eq, length-sets}
+use lib.ListN.{length, getD, take, drop, set, length-append, length-set, drop-of-length-le}
+use lib.Seq.{sets, sets-eq, length-sets, take-append-seam, drop-cons}
 use Rattle.base.proofs.Tests.{cond-by}
 use Rattle.script.specs.Private.{put, puts}
 
@@ -24,14 +24,15 @@ module _ (width index : ℕ) (table words : List ℕ) where
   unfolding put
   put-length = cond-by (λ (l : List ℕ). length l ≡ length table) (leb (index * width + width) (length table)) (λ _. length-sets table (index * width) words) (λ _. refl)
 
--- nothing fits in an empty table
-pub puts-none : (width index : ℕ) (records : List (List ℕ)) → 0 < width → puts width [] index records ≡ []
+puts-length : (width index : ℕ) (table : List ℕ) (records : List (List ℕ)) → length (puts width table index records) ≡ length table
 unfolding puts
-puts-none width index [] h = refl
-puts-none width index (r ∷ later) h =
-    rw (sym (put-past width index [] r (omega arith))) (puts-none width (index + 1) later h)
+puts-length width index table [] = refl
+puts-length width index table (r ∷ later) = puts-length width (index + 1) (put width table index r) later ∙ put-length width index table r
 
 -- where all of them fit
+sets-front : (words table : List ℕ) → length words ≤ length table → sets table 0 words ≡ words ++ drop (length words) table
+sets-front words table h = sets-eq words table 0 (omega arith) ∙ ap (λ (n : ℕ). words ++ drop n table) (zero-add (length words))
+
 sets-append : (xs ys l : List ℕ) (i : ℕ) → sets l i (xs ++ ys) ≡ sets (sets l i xs) (i + length xs) ys
 sets-append [] ys l i = ap (λ (k : ℕ). sets l k ys) (sym (add-zero i))
 sets-append (x ∷ xs) ys l i = sets-append xs ys (set l i x) (suc i) ∙ ap (λ (k : ℕ). sets (sets (set l i x) (suc i) xs) k ys) (omega arith)
@@ -51,8 +52,31 @@ module _ {A : Type 0} (words : A → List ℕ) (width : ℕ) (each : (a : A) →
 
   pub puts-all : (xs : List A) (table : List ℕ) → length (flatMap words xs) ≤ length table
       → puts width table 0 (map words xs) ≡ flatMap words xs ++ drop (length (flatMap words xs)) table
-  puts-all xs table h =
-      puts-sets xs table 0 (omega arith)
-      ∙ ap (λ (i : ℕ). sets table i (flatMap words xs)) (zero-mul width)
-      ∙ sets-eq (flatMap words xs) table 0 (omega arith)
-      ∙ ap (λ (n : ℕ). flatMap words xs ++ drop n table) (zero-add (length (flatMap words xs)))
+  puts-all xs table h = puts-sets xs table 0 (omega arith) ∙ ap (λ (i : ℕ). sets table i (flatMap words xs)) (zero-mul width) ∙ sets-front (flatMap words xs) table h
+
+  -- by way of a table of their own
+  pub puts-copied : (xs : List A) (own table : List ℕ) {n : ℕ} {own′ : List ℕ} → n ≡ length (flatMap words xs) → n ≤ length own′ → n ≤ length table
+      → own′ ≡ puts width own 0 (map words xs) → sets table 0 (take n own′) ≡ flatMap words xs ++ drop (length (flatMap words xs)) table
+  puts-copied xs own table e h k p =
+      let room : length (flatMap words xs) ≤ length own = omega (arith, e, h, ap length p, puts-length width 0 own (map words xs)) in
+      rw (p, e, puts-all xs own room, take-append-seam (flatMap words xs) (drop (length (flatMap words xs)) own))
+      (sets-front (flatMap words xs) table (omega arith))
+
+-- ---- words that are copied to the front of a table, of which i are
+pub record Copying (words table₀ table : List ℕ) (i : ℕ) : Type 0 where
+  pub inside : i ≤ length words
+  pub room : length table ≡ length table₀
+  pub left : sets table i (drop i words) ≡ sets table₀ 0 words
+
+module _ {words table₀ table : List ℕ} {i : ℕ} (s : Copying words table₀ table i) where
+  pub copying-one : i < length words → Copying words table₀ (set table i (getD words i 0)) (i + 1)
+  copying-one h =
+      let next : i + 1 ≡ suc i = omega arith in
+      record {
+        inside = omega arith;
+        room = length-set table i (getD words i 0) ∙ s .room;
+        left = rw next (rw (drop-cons words i 0 h) at (s .left));
+      }
+
+  pub copying-ends : length words ≤ i → table ≡ sets table₀ 0 words
+  copying-ends h = rw (drop-of-length-le words h) at (s .left)

@@ -8,6 +8,7 @@ ghost use mathlib.Core.List.{[], _∷_};
 ghost use mathlib.Core.Path.{_≡_};
 ghost use Prim.Native.Nat.{_≤_};
 ghost use lib.ListN.{length};
+ghost use lib.Seq.{sets};
 ghost use Rattle.script.specs.Private.{put, kindWord, valueWord, recordOf, Passes};
 
 // How many records there are, or where the text is ill-formed.
@@ -38,7 +39,7 @@ fn value_word(kind: Kind) -> u32
     }
 }
 
-// The kind is found only where there is room: a pass that counts never needs it.
+// The kind is found only where there is room for it: what is only counted needs none.
 fn put_operator(table: &mut [u32], index: usize, token: &[u8], start: usize, end: usize)
     requires { ⌜ (index ≤ 65535) × ((start ≤ 65535) × (end ≤ 65535)) ⌝ }
     ensures { λ _. ⌜ now (table .exit) ≡ put 4 (now (table .entry)) index (recordOf (now (token .entry)) start end) ⌝ }
@@ -62,6 +63,17 @@ fn put_label(table: &mut [u32], index: usize, start: usize, end: usize, operator
         table[at] = start as u32;
         table[at + 1] = end as u32;
         table[at + 2] = operator as u32;
+    }
+}
+
+pub(crate) fn copy_words(words: &[u32], table: &mut [u32])
+    requires { ⌜ length (now words) ≤ length (now table) ⌝ }
+    ensures { λ _. ⌜ now (table .exit) ≡ sets (now (table .entry)) 0 (now (words .entry)) ⌝ }
+{
+    let mut i = 0;
+    while i < words.len() {
+        table[i] = words[i];
+        i += 1;
     }
 }
 

@@ -1,5 +1,6 @@
 // Compile: a text's records, in tables that the caller lends.
 use crate::records::Counted;
+use crate::records::copy_words;
 use crate::records::pass;
 use utf8::is_ascii;
 ghost use mathlib.Core.Bool.{true};
@@ -53,17 +54,14 @@ fn write_records(text: &[u8], operators: &mut [u32], labels: &mut [u32]) -> Comp
     }
 }
 
-pub fn compile(text: &[u8], operators: &mut [u32], labels: &mut [u32]) -> Compiled
+// The records of a short script wait in tables of its own until it is known to be accepted; a longer one is read twice.
+fn write_counted(text: &[u8], operators: &mut [u32], labels: &mut [u32]) -> Compiled
+    requires { ⌜ length (now text) ≤ 65535 ⌝ }
     ensures { λ r. ⌜ Compiles (now (text .entry)) (now (operators .entry)) (now (labels .entry)) (record { answer = compiledAnswer r; operators = now (operators .exit); labels = now (labels .exit) }) ⌝ }
 {
-    if 65535 < text.len() {
-        return Compiled::TooLong;
-    }
-    if is_surely_accepted(text, operators, labels) {
-        return write_records(text, operators, labels);
-    }
-    // Nothing fits in an empty table: the first pass counts.
-    match pass(text, &mut operators[..0], &mut labels[..0]) {
+    let mut own_operators = [0; 4 * 256];
+    let mut own_labels = [0; 3 * 64];
+    match pass(text, &mut own_operators, &mut own_labels) {
         Counted::IllFormed(at) => Compiled::IllFormed(at),
         Counted::Records {
             operators: n,
@@ -75,7 +73,27 @@ pub fn compile(text: &[u8], operators: &mut [u32], labels: &mut [u32]) -> Compil
             if labels.len() / 3 < m {
                 return Compiled::TooManyLabels(m);
             }
-            write_records(text, operators, labels)
+            if (256 < n) | (64 < m) {
+                return write_records(text, operators, labels);
+            }
+            copy_words(&own_operators[..n * 4], operators);
+            copy_words(&own_labels[..m * 3], labels);
+            Compiled::Accepted(Script {
+                operators: n,
+                labels: m,
+            })
         }
     }
+}
+
+pub fn compile(text: &[u8], operators: &mut [u32], labels: &mut [u32]) -> Compiled
+    ensures { λ r. ⌜ Compiles (now (text .entry)) (now (operators .entry)) (now (labels .entry)) (record { answer = compiledAnswer r; operators = now (operators .exit); labels = now (labels .exit) }) ⌝ }
+{
+    if 65535 < text.len() {
+        return Compiled::TooLong;
+    }
+    if is_surely_accepted(text, operators, labels) {
+        return write_records(text, operators, labels);
+    }
+    write_counted(text, operators, labels)
 }
