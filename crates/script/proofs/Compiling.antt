@@ -32,14 +32,14 @@ module _ (text operators labels : List ℕ) where
   abbrev answered : CompileAnswer
   answered = compileAnswer text (operatorCapacity operators) (labelCapacity labels)
 
-  refused : (number value : ℕ) {operators′ labels′ : List ℕ} → answered ≡ rejected (suc number) value → operators′ ≡ operators → labels′ ≡ labels
-      → Compiles text operators labels (record { answer = rejected (suc number) value; operators = operators′; labels = labels′ })
+  refused : (number value : ℕ) → answered ≡ rejected (suc number) value
+      → Compiles text operators labels (record { answer = rejected (suc number) value; operators = operators; labels = labels })
   unfolding compile
-  refused number value e p q = rw (e, p, q)
+  refused number value e = rw e
 
   pub too-long : longest < length text → Compiles text operators labels (record { answer = rejected 22 longest; operators = operators; labels = labels })
   unfolding compileAnswer
-  too-long h = refused 21 longest (rw (lt-ltb longest (length text) h)) refl refl
+  too-long h = refused 21 longest (rw (lt-ltb longest (length text) h))
 
   module _ (short : length text ≤ longest) where
     not-long : answered ≡ checked (illFormedAt (chars text)) (fitted (operatorCapacity operators) (labelCapacity labels) (length (scriptOf text .operators)) (length (scriptOf text .labels)))
@@ -83,7 +83,7 @@ module _ (text operators labels : List ℕ) where
       pub ill-formed : {at : ℕ} → r ≡ IllFormed at → Compiles text operators labels (record { answer = rejected 21 at; operators = operators; labels = labels })
       ill-formed {at} e =
           let broken : illFormedAt (chars text) ≡ some at = told _ _ _ (sym e ∙ p .answer) in
-          refused 20 at (not-long ∙ rw broken) refl refl
+          refused 20 at (not-long ∙ rw broken)
 
       module _ {n m : ℕ} (e : r ≡ Records n m) where
         counts : (illFormedAt (chars text) ≡ none) × (n ≡ length (scriptOf text .operators)) × (m ≡ length (scriptOf text .labels))
@@ -93,11 +93,11 @@ module _ (text operators labels : List ℕ) where
         counted = not-long ∙ rw (counts .0, ← counts .1, ← counts .2)
 
         pub too-many-operators : length operators / 4 < n → Compiles text operators labels (record { answer = rejected 23 n; operators = operators; labels = labels })
-        too-many-operators h = refused 22 n (counted ∙ rw (lt-ltb (length operators / 4) n h)) refl refl
+        too-many-operators h = refused 22 n (counted ∙ rw (lt-ltb (length operators / 4) n h))
 
         module _ (operators-fit : n ≤ length operators / 4) where
           pub too-many-labels : length labels / 3 < m → Compiles text operators labels (record { answer = rejected 24 m; operators = operators; labels = labels })
-          too-many-labels h = refused 23 m (counted ∙ rw (le-ltb (length operators / 4) n operators-fit, lt-ltb (length labels / 3) m h)) refl refl
+          too-many-labels h = refused 23 m (counted ∙ rw (le-ltb (length operators / 4) n operators-fit, lt-ltb (length labels / 3) m h))
 
           module _ (labels-fit : m ≤ length labels / 3) where
             pub accepts : Accepts text operators labels

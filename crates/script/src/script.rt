@@ -43,6 +43,7 @@ fn write_records(text: &[u8], operators: &mut [u32], labels: &mut [u32]) -> Comp
     ensures { λ r. ⌜ Compiles (now (text .entry)) (now (operators .entry)) (now (labels .entry)) (record { answer = compiledAnswer r; operators = now (operators .exit); labels = now (labels .exit) }) ⌝ }
 {
     match pass(text, operators, labels) {
+        // Never: the text is well-formed.
         Counted::IllFormed(at) => Compiled::IllFormed(at),
         Counted::Records {
             operators: n,

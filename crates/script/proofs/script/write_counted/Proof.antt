@@ -1,4 +1,5 @@
-use Prim.Native.Nat.{_*_, _≤_}
+use Prim.Native.Nat.{ℕ, _*_, _≤_}
+use mathlib.Core.List.{List}
 use mathlib.Core.Path.{_≡_, sym}
 use native.Mathlib.Omega.{arith}
 use borrow.Author.Needs.{needs}
@@ -13,21 +14,33 @@ use Rattle.script.proofs.script.write_counted.Tie as tie
 short : (c : tie.After-pass) → length (c .before .before .before .before .before .before .args .text .now) ≤ 65535
 short c = c .before .before .before .before .before .before .pre
 
--- where the records wait, there is room for them
-few : (c : tie.Else3) → (c .before .before .before .before .n .given .0 .0 ≤ 256) × (c .before .before .before .before .n .given .0 .1 .0 ≤ 64)
+-- the counts, and the words that wait
+abbrev n : tie.Else3 → ℕ
+n c = c .before .before .before .before .n .given .0 .0
+
+abbrev m : tie.Else3 → ℕ
+m c = c .before .before .before .before .n .given .0 .1 .0
+
+abbrev own-operators : tie.Else3 → List ℕ
+own-operators c = c .before .before .before .before .before .before .before .before .pass .last .1 .0
+
+abbrev own-labels : tie.Else3 → List ℕ
+own-labels c = c .before .before .before .before .before .before .before .before .pass .last .1 .1 .0
+
+few : (c : tie.Else3) → (n c ≤ 256) × (m c ≤ 64)
 few c = let t = neither _ _ (c .if3 .left) in (ltb-false _ _ (t .0), ltb-false _ _ (t .1))
 
-own-operators-room : (c : tie.Else3) → c .before .before .before .before .n .given .0 .0 * 4 ≤ length (c .before .before .before .before .before .before .before .before .pass .last .1 .0)
-own-operators-room c = omega (arith, few c .0, c .before .before .before .before .before .before .before .own-operators2 .given)
+operators-wait : (c : tie.Else3) → n c * 4 ≤ length (own-operators c)
+operators-wait c = omega (arith, few c .0, c .before .before .before .before .before .before .before .own-operators2 .given)
 
-own-labels-room : (c : tie.Else3) → c .before .before .before .before .n .given .0 .1 .0 * 3 ≤ length (c .before .before .before .before .before .before .before .before .pass .last .1 .1 .0)
-own-labels-room c = omega (arith, few c .1, c .before .before .before .before .before .before .own-labels2 .given)
+labels-wait : (c : tie.Else3) → m c * 3 ≤ length (own-labels c)
+labels-wait c = omega (arith, few c .1, c .before .before .before .before .before .before .own-labels2 .given)
 
-own-operators-length : (c : tie.Else3) → length (take (c .before .before .before .before .n .given .0 .0 * 4) (c .before .before .before .before .before .before .before .before .pass .last .1 .0)) ≡ c .before .before .before .before .n .given .0 .0 * 4
-own-operators-length c = length-take-le _ _ (own-operators-room c)
+operator-words : (c : tie.Else3) → length (take (n c * 4) (own-operators c)) ≡ n c * 4
+operator-words c = length-take-le _ _ (operators-wait c)
 
-own-labels-length : (c : tie.Else3) → length (take (c .before .before .before .before .n .given .0 .1 .0 * 3) (c .before .before .before .before .before .before .before .before .pass .last .1 .1 .0)) ≡ c .before .before .before .before .n .given .0 .1 .0 * 3
-own-labels-length c = length-take-le _ _ (own-labels-room c)
+label-words : (c : tie.Else3) → length (take (m c * 3) (own-labels c)) ≡ m c * 3
+label-words c = length-take-le _ _ (labels-wait c)
 
 slice-aggregate-pass : tie.Need-slice-aggregate-pass
 slice-aggregate-pass c = search needs
@@ -73,25 +86,25 @@ mul-own-operators : tie.Need-mul-own-operators
 mul-own-operators c = search needs
 
 array-share-prefix-own-operators : tie.Need-array-share-prefix-own-operators
-array-share-prefix-own-operators c = own-operators-room c
+array-share-prefix-own-operators c = operators-wait c
 
 slice-aggregate-copy-words : tie.Need-slice-aggregate-copy-words
-slice-aggregate-copy-words c = sym (own-operators-length (c .before))
+slice-aggregate-copy-words c = sym (operator-words (c .before))
 
 copy-words-requires : tie.Need-copy-words-requires
-copy-words-requires c κs = omega (arith, own-operators-length (c .before .before), c .before .before .before .before .if1 .left)
+copy-words-requires c κs = omega (arith, operator-words (c .before .before), c .before .before .before .before .if1 .left)
 
 mul-own-labels : tie.Need-mul-own-labels
 mul-own-labels c = search needs
 
 array-share-prefix-own-labels : tie.Need-array-share-prefix-own-labels
-array-share-prefix-own-labels c = own-labels-room (c .before .before .before .before .before)
+array-share-prefix-own-labels c = labels-wait (c .before .before .before .before .before)
 
 slice-aggregate-copy-words-2 : tie.Need-slice-aggregate-copy-words-2
-slice-aggregate-copy-words-2 c = sym (own-labels-length (c .before .before .before .before .before .before))
+slice-aggregate-copy-words-2 c = sym (label-words (c .before .before .before .before .before .before))
 
 copy-words-requires-2 : tie.Need-copy-words-requires-2
-copy-words-requires-2 c κs = omega (arith, own-labels-length (c .before .before .before .before .before .before .before), c .before .before .before .before .before .before .before .before .if2 .left)
+copy-words-requires-2 c κs = omega (arith, label-words (c .before .before .before .before .before .before .before), c .before .before .before .before .before .before .before .before .if2 .left)
 
 returns-4 : tie.Need-returns-4
 returns-4 c =
@@ -110,7 +123,7 @@ returns-5 c =
     let at-if2 = at-if3 .before in
     let at-pass = at-if2 .before .before .before .before .before .before .before in
     copied _ _ _ (short at-pass) (at-pass .pass .ensures) (at-if2 .before .before .before .n .given .1) (at-if2 .before .if1 .left) (at-if2 .if2 .left)
-    (own-operators-room at-if3) (own-labels-room at-if3) (c .before .before .before .before .before .before .before .copy-words .ensures) (c .before .before .copy-words2 .ensures)
+    (operators-wait at-if3) (labels-wait at-if3) (c .before .before .before .before .before .before .before .copy-words .ensures) (c .before .before .copy-words2 .ensures)
 
 pub write-counted-spec : {M : Type 1} → statement M
 write-counted-spec =
