@@ -1,69 +1,62 @@
 -- The next operator, by what its record says; and what a code tells.
 use Prim.Native.Nat.{ℕ, _+_, _-_, _*_, _≤_, _<_, _^_}
-use mathlib.Core.Bool.{Bool, true, false, cond, _||_}
+use mathlib.Core.Bool.{Bool, true, false, cond, _&&_, _||_}
 use mathlib.Core.List.{List, map}
 use mathlib.Core.Option.{Option, none, some}
 use mathlib.Core.Path.{_≡_, refl, sym, ap, _∙_}
 use native.Mathlib.Omega.{arith}
-use borrow.Author.Tests.{ltb-false, leb-false, le-ltb, lt-ltb}
-use lib.Dec.{leb, ltb}
+use borrow.Author.Tests.{eqb-true, ltb-true, ltb-false, leb-true, leb-false, le-ltb, lt-ltb, lt-leb}
+use lib.Dec.{eqb, leb, ltb}
 use lib.ListN.{length, getD, take, drop}
-use Rattle.base.proofs.Tests.{neither}
+use Rattle.base.proofs.Tests.{both, neither}
 use Rattle.stack_assembly.specs.Script.{Operator, operator, damagedOperator, operatorIn, operatorCapacity, part, recordsIn, Tables, scriptIn}
 use Rattle.stack_assembly.specs.Step.{Fetched, past, damaged, pushes, unresolved, word, unknown, resolved, identified, ofKind, fetchedFrom, fetched}
 use Rattle.stack_assembly.specs.Words.{Word, words, lookup}
 use Rattle.words.specs.Places.{place, placeOf}
-use Rattle.words.specs.Table.{theTable, foundIn}
 use Rattle.words.proofs.Words.{right}
 use Rattle.fetch.specs.declared.codes.Code.{Code}
-use Rattle.fetch.specs.Codes.{code, codeOf, fetchedOf, Small, lent, Fetches}
-use Rattle.fetch.specs.Private.{labelsOf, Identifies, OfKind}
+use Rattle.fetch.specs.Codes.{code, codeOf, fetchedOf, Small, lent, Fetches, FetchesInteger}
+use Rattle.fetch.specs.Private.{labelsOf, OfKind}
 use Rattle.fetch.proofs.Records.{no-more, next-operator}
 use Rattle.fetch.proofs.Resolved.{part-from}
 
 -- ---- an identifier
 
-placed : (table : List (List ℕ)) (name : List ℕ) {p : ℕ} → p ≡ foundIn table name → table ≡ theTable → p ≡ placeOf (lookup name words)
-placed table name e t = rw t at e ∙ right .found name
+pub identified-is : (o : Option Word) {p : ℕ} → p ≡ placeOf o → code (2 + p) 0 ≡ codeOf (identified o)
+identified-is none e = rw e
+identified-is (some w) e = rw e
 
-no-word : (o : Option Word) {p : ℕ} → p ≡ placeOf o → 30 ≤ p → code 35 0 ≡ codeOf (identified o)
-no-word none e h = refl
-no-word (some w) e h = absurd (omega (arith, right .below w))
+pub place-most : (o : Option Word) → placeOf o ≤ 30
+place-most none = omega arith
+place-most (some w) = omega (arith, right .below w)
 
-a-word : (o : Option Word) {p : ℕ} → p ≡ placeOf o → p < 30 → code (2 + p) 0 ≡ codeOf (identified o)
-a-word none e h = absurd (omega arith)
-a-word (some w) e h = rw e
-
-module _ (table : List (List ℕ)) (name : List ℕ) {p : ℕ} (e : p ≡ foundIn table name) where
-  pub identifies-none : 30 ≤ p → Identifies table name (code 35 0)
-  identifies-none h = record { coded = λ t. no-word (lookup name words) (placed table name e t) h; small = λ q. absurd (omega arith) }
-
-  pub identifies-word : p < 30 → Identifies table name (code (2 + p) 0)
-  identifies-word h = record { coded = λ t. a-word (lookup name words) (placed table name e t) h; small = λ (q : 2 + p < 2). absurd (omega arith) }
+no-value : (o : Option Word) → Small (codeOf (identified o))
+no-value none q = absurd (omega arith)
+no-value (some w) q = absurd (omega arith)
 
 -- ---- a record that is whole, by its kind
 
 part-is : (text : List ℕ) (start end : ℕ) → start ≤ end → part text start end ≡ take (end - start) (drop start text)
 part-is text start end h = let e : start + (end - start) ≡ end = omega arith in rw e at (part-from text start (end - start))
 
-module _ (table : List (List ℕ)) (text labels : List ℕ) {kind : ℕ} (start end value : ℕ) where
-  pub of-identifier : {r : Code} → kind ≡ 0 → start < end → Identifies table (take (end - start) (drop start text)) r
-      → OfKind table text labels (operator kind start end value) r
+module _ (text labels : List ℕ) {kind : ℕ} (start end value : ℕ) where
+  pub of-identifier : {r : Code} → kind ≡ 0 → start < end → r ≡ codeOf (identified (lookup (take (end - start) (drop start text)) words))
+      → OfKind text labels (operator kind start end value) r
   unfolding ofKind
   of-identifier e h i =
-      record { coded = λ t os. rw (e, part-is text start end (omega arith)) (i .coded t); small = i .small }
+      record { coded = λ os. rw (e, part-is text start end (omega arith)) i; small = rw i (no-value (lookup (take (end - start) (drop start text)) words)) }
 
-  pub of-integer : kind ≡ 1 → value < 2 ^ 32 → OfKind table text labels (operator kind start end value) (code 1 value)
+  pub of-integer : kind ≡ 1 → value < 2 ^ 32 → OfKind text labels (operator kind start end value) (code 1 value)
   unfolding ofKind
-  of-integer e h = record { coded = λ t os. rw e; small = λ q. h }
+  of-integer e h = record { coded = λ os. rw e; small = λ q. h }
 
   pub of-reference : {r : Code} → kind ≡ 2 → start < end
       → r ≡ codeOf (resolved text (take (end - start - 1) (drop (start + 1) text)) 0 (labelsOf labels)) → Small r
-      → OfKind table text labels (operator kind start end value) r
+      → OfKind text labels (operator kind start end value) r
   unfolding ofKind
   of-reference e h q s =
       let n : end - (start + 1) ≡ end - start - 1 = omega arith in
-      record { coded = λ t os. rw (e, part-is text (start + 1) end (omega arith), n) q; small = s }
+      record { coded = λ os. rw (e, part-is text (start + 1) end (omega arith), n) q; small = s }
 
 -- ---- the record
 
@@ -87,7 +80,7 @@ module _ {text operators : List ℕ} {next at kind start end value : ℕ} {d : B
       let q = neither (leb end start) (ltb (length text) end) (p .1) in
       (ltb-false 2 kind (p .0), leb-false end start (q .0), ltb-false (length text) end (q .1))
 
-  module _ (table : List (List ℕ)) (labels : List ℕ) where
+  module _ (labels : List ℕ) where
     here : fetched (scriptIn (lent text operators labels)) next
         ≡ cond d (damaged at) (ofKind kind (record { text = text; operators = allOperators operators; labels = labelsOf labels }) (operator kind start end value))
     unfolding allOperators fetched fetchedFrom scriptIn labelsOf
@@ -95,19 +88,19 @@ module _ {text operators : List ℕ} {next at kind start end value : ℕ} {d : B
         rw (← o .next-is, next-operator (operatorCapacity operators) at operators (o .more))
         (rw (o .damaged-is, o .kind-is, o .start-is, o .end-is, o .value-is))
 
-    pub damaged-operator : d ≡ true → Fetches table (lent text operators labels) next (code 33 at)
-    damaged-operator t = record { coded = λ e. rw (here, t); small = λ q. absurd (omega arith) }
+    pub damaged-operator : d ≡ true → Fetches (lent text operators labels) next (code 33 at)
+    damaged-operator t = record { coded = rw (here, t); small = λ q. absurd (omega arith) }
 
-    pub the-operator : d ≡ false → {r : Code} → OfKind table text labels (operator kind start end value) r
-        → Fetches table (lent text operators labels) next r
-    the-operator t k = record { coded = λ e. rw (here, t) (k .coded e (allOperators operators)); small = k .small }
+    pub the-operator : d ≡ false → {r : Code} → OfKind text labels (operator kind start end value) r
+        → Fetches (lent text operators labels) next r
+    the-operator t k = record { coded = rw (here, t) (k .coded (allOperators operators)); small = k .small }
 
-pub past-last : (table : List (List ℕ)) (text operators labels : List ℕ) {next at : ℕ} → at ≡ next → operatorCapacity operators ≤ at
-    → Fetches table (lent text operators labels) next (code 32 0)
+pub past-last : (text operators labels : List ℕ) {next at : ℕ} → at ≡ next → operatorCapacity operators ≤ at
+    → Fetches (lent text operators labels) next (code 35 0)
 unfolding fetched fetchedFrom scriptIn
-past-last table text operators labels {next} e h =
+past-last text operators labels {next} e h =
     record {
-      coded = λ t. rw (no-more 4 operatorIn (operatorCapacity operators) operators next (rw e at h));
+      coded = rw (no-more 4 operatorIn (operatorCapacity operators) operators next (rw e at h));
       small = λ q. absurd (omega arith);
     }
 
@@ -127,6 +120,31 @@ told (word w) =
     rw (le-ltb (2 + p) 2 (omega arith), lt-ltb (2 + p) 32 (omega arith), e, right .again w)
 
 -- By its two numbers a caller knows what was fetched.
-pub fetched-is : {table : List (List ℕ)} {tables : Tables} {next : ℕ} {r : Code} → Fetches table tables next r → table ≡ theTable
-    → fetchedOf r ≡ fetched (scriptIn tables) next
-fetched-is {tables = t} {next = n} f e = ap fetchedOf (f .coded e) ∙ told (fetched (scriptIn t) n)
+pub fetched-is : (tables : Tables) (next : ℕ) {r : Code} → r ≡ codeOf (fetched (scriptIn tables) next) → fetchedOf r ≡ fetched (scriptIn tables) next
+fetched-is tables next e = ap fetchedOf e ∙ told (fetched (scriptIn tables) next)
+
+-- ---- an integer
+
+zero-one : _≡_ {A = ℕ} 0 1 → ⊥
+zero-one e = omega arith
+
+pub no-integer : (tables : Tables) (next : ℕ) → FetchesInteger tables next (code 0 0)
+no-integer tables next = record { coded = λ e. absurd (zero-one e); small = λ q. omega arith }
+
+-- The record is whole where it passes the test.
+pub an-integer : (text operators labels : List ℕ) {next at start end value : ℕ} → at ≡ next → at < operatorCapacity operators
+    → start ≡ getD operators (4 * at + 1) 0 → end ≡ getD operators (4 * at + 2) 0 → value ≡ getD operators (4 * at + 3) 0 → value < 2 ^ 32
+    → (eqb (getD operators (4 * at) 0) 1 && (ltb start end && leb end (length text))) ≡ true
+    → FetchesInteger (lent text operators labels) next (code 1 value)
+an-integer text operators labels {next} {at} {start} {end} {value} en m es ee ev s t =
+    let kind = getD operators (4 * at) 0 in
+    let p = both (eqb kind 1) (ltb start end && leb end (length text)) t in
+    let q = both (ltb start end) (leb end (length text)) (p .1) in
+    let one = eqb-true kind 1 (p .0) in
+    let least = ltb-true start end (q .0) in
+    let most = leb-true end (length text) (q .1) in
+    let whole : damagedOperator text (operator kind start end 0) ≡ false = rw (one, lt-leb end start least, le-ltb (length text) end most) in
+    let o : AtOperator text operators next at kind start end value (damagedOperator text (operator kind start end 0)) =
+    record { next-is = en; more = m; kind-is = refl; start-is = es; end-is = ee; value-is = ev; damaged-is = refl } in
+    let f = the-operator o labels whole (of-integer text labels start end value one s) in
+    record { coded = λ e. f .coded; small = f .small }

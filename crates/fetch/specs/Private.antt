@@ -3,9 +3,7 @@ use Prim.Native.Nat.{ℕ}
 use mathlib.Core.List.{List, map}
 use mathlib.Core.Path.{_≡_}
 use Rattle.stack_assembly.specs.Script.{Operator, Label, labelIn, labelCapacity, recordsIn}
-use Rattle.stack_assembly.specs.Step.{identified, ofKind}
-use Rattle.stack_assembly.specs.Words.{lookup, words}
-use Rattle.words.specs.Table.{theTable}
+use Rattle.stack_assembly.specs.Step.{ofKind}
 use Rattle.fetch.specs.Codes.{codeOf, Small}
 use Rattle.fetch.specs.declared.codes.Code.{Code}
 
@@ -17,12 +15,7 @@ range start end = record { start = start; end = end; operator = 0 }
 unfoldable pub labelsOf : (labels : List ℕ) → List Label
 labelsOf labels = map labelIn (recordsIn 3 (labelCapacity labels) labels)
 
--- An identifier's answer over the constant table.
-pub record Identifies (table : List (List ℕ)) (name : List ℕ) (r : Code) : Type 0 where
-  pub coded : table ≡ theTable → r ≡ codeOf (identified (lookup name words))
-  pub small : Small r
-
--- The answer for a record that is not damaged, over the constant table, whichever operators there are.
-pub record OfKind (table : List (List ℕ)) (text labels : List ℕ) (o : Operator) (r : Code) : Type 0 where
-  pub coded : table ≡ theTable → (os : List Operator) → r ≡ codeOf (ofKind (o .kind) (record { text = text; operators = os; labels = labelsOf labels }) o)
+-- The answer for a record that is not damaged, whichever operators there are.
+pub record OfKind (text labels : List ℕ) (o : Operator) (r : Code) : Type 0 where
+  pub coded : (os : List Operator) → r ≡ codeOf (ofKind (o .kind) (record { text = text; operators = os; labels = labelsOf labels }) o)
   pub small : Small r

@@ -5,3 +5,4 @@ mod references;
 
 pub use codes::Code;
 pub use operators::fetch;
+pub use operators::integer;

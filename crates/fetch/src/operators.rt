@@ -4,11 +4,14 @@ use crate::codes::wide;
 use crate::references::resolve;
 use words::find;
 ghost use mathlib.Core.Path.{_≡_};
-ghost use Prim.Native.Nat.{_≤_, _<_, _^_};
+ghost use mathlib.Core.List.{List};
+ghost use Prim.Native.Nat.{ℕ, _≤_, _<_, _^_};
 ghost use lib.ListN.{length, take};
 ghost use Rattle.stack_assembly.specs.Script.{operator, damagedOperator};
-ghost use Rattle.fetch.specs.Codes.{lent, Fetches};
-ghost use Rattle.fetch.specs.Private.{Identifies, OfKind};
+ghost use Rattle.stack_assembly.specs.Step.{identified};
+ghost use Rattle.stack_assembly.specs.Words.{words, lookup};
+ghost use Rattle.fetch.specs.Codes.{codeOf, lent, Fetches, FetchesInteger};
+ghost use Rattle.fetch.specs.Private.{OfKind};
 
 fn damaged(text: &[u8], kind: usize, start: usize, end: usize) -> bool
     ensures { λ r. ⌜ r ≡ damagedOperator (now (text .entry)) (operator kind start end 0) ⌝ }
@@ -16,34 +19,22 @@ fn damaged(text: &[u8], kind: usize, start: usize, end: usize) -> bool
     (2 < kind) | ((end <= start) | (text.len() < end))
 }
 
-fn identify(table: &[[u8; 16]; 34], name: &[u8], n: usize) -> Code
-    ensures { λ r. ⌜ Identifies (now (table .entry)) (take n (now (name .entry))) r ⌝ }
+fn identify(name: &[u8], n: usize) -> Code
+    ensures { λ r. ⌜ r ≡ codeOf (identified (lookup (take n (now (name .entry))) words)) ⌝ }
 {
-    let place = find(table, name, n);
-    if 30 <= place {
-        return Code { op: 35, value: 0 };
-    }
     Code {
-        op: 2 + place,
+        op: 2 + find(name, n),
         value: 0,
     }
 }
 
 // A record that is not damaged, by its kind.
-fn of_kind(
-    table: &[[u8; 16]; 34],
-    text: &[u8],
-    labels: &[u32],
-    kind: usize,
-    start: usize,
-    end: usize,
-    value: usize,
-) -> Code
+fn of_kind(text: &[u8], labels: &[u32], kind: usize, start: usize, end: usize, value: usize) -> Code
     requires { ⌜ (kind ≤ 2) × (start < end) × (end ≤ length (now text)) × (value < 2 ^ 32) ⌝ }
-    ensures { λ r. ⌜ OfKind (now (table .entry)) (now (text .entry)) (now (labels .entry)) (operator kind start end value) r ⌝ }
+    ensures { λ r. ⌜ OfKind (now (text .entry)) (now (labels .entry)) (operator kind start end value) r ⌝ }
 {
     if kind == 0 {
-        return identify(table, &text[start..], end - start);
+        return identify(&text[start..], end - start);
     }
     if kind == 1 {
         return Code { op: 1, value };
@@ -52,18 +43,12 @@ fn of_kind(
 }
 
 // The tables are lent as the words of their records alone.
-pub fn fetch(
-    table: &[[u8; 16]; 34],
-    text: &[u8],
-    operators: &[u32],
-    labels: &[u32],
-    next: u32,
-) -> Code
-    ensures { λ r. ⌜ Fetches (now (table .entry)) (lent (now (text .entry)) (now (operators .entry)) (now (labels .entry))) next r ⌝ }
+pub fn fetch(text: &[u8], operators: &[u32], labels: &[u32], next: u32) -> Code
+    ensures { λ r. ⌜ Fetches (lent (now (text .entry)) (now (operators .entry)) (now (labels .entry))) next r ⌝ }
 {
     let at = wide(next);
     if operators.len() / 4 <= at {
-        return Code { op: 32, value: 0 };
+        return Code { op: 35, value: 0 };
     }
     let kind = wide(operators[4 * at]);
     let start = wide(operators[4 * at + 1]);
@@ -72,5 +57,24 @@ pub fn fetch(
     if damaged(text, kind, start, end) {
         return Code { op: 33, value: at };
     }
-    of_kind(table, text, labels, kind, start, end, value)
+    of_kind(text, labels, kind, start, end, value)
+}
+
+// The next operator where it is an integer; a code of 0 says no more.
+pub fn integer(text: &[u8], operators: &[u32], next: u32) -> Code
+    ensures { λ r. ⌜ ((labels : List ℕ) → FetchesInteger (lent (now (text .entry)) (now (operators .entry)) labels) next r) ⌝ }
+{
+    let at = wide(next);
+    if operators.len() / 4 <= at {
+        return Code { op: 0, value: 0 };
+    }
+    let start = wide(operators[4 * at + 1]);
+    let end = wide(operators[4 * at + 2]);
+    if (operators[4 * at] == 1) & ((start < end) & (end <= text.len())) {
+        return Code {
+            op: 1,
+            value: wide(operators[4 * at + 3]),
+        };
+    }
+    Code { op: 0, value: 0 }
 }

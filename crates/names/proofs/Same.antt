@@ -89,7 +89,7 @@ module _ {a b : List ℕ} {n i : ℕ} (s : SoFar a b n i) where
 abbrev pub AreBytes : List ℕ → Type 0
 AreBytes l = (k : ℕ) → getD l k 0 < 256
 
-take-bytes : (n : ℕ) (l : List ℕ) → AreBytes l → AreBytes (take n l)
+pub take-bytes : (n : ℕ) (l : List ℕ) → AreBytes l → AreBytes (take n l)
 take-bytes zero l h k = omega arith
 take-bytes (suc n) [] h k = omega arith
 take-bytes (suc n) (x ∷ l) h zero = h 0
@@ -106,7 +106,7 @@ digits-same x y a b h k =
     (λ t. let p = both (eqb a b) (eqb x y) t in omega (arith, eqb-true a b (p .0), eqb-true x y (p .1)))
     (λ (e : x * 256 + a ≡ y * 256 + b). rw (eq-eqb a b (omega arith), eq-eqb x y (omega arith)))
 
-packed-same : (xs ys : List ℕ) → length xs ≡ length ys → AreBytes xs → AreBytes ys → eqb (packed xs) (packed ys) ≡ sameBytes xs ys
+pub packed-same : (xs ys : List ℕ) → length xs ≡ length ys → AreBytes xs → AreBytes ys → eqb (packed xs) (packed ys) ≡ sameBytes xs ys
 unfolding packed sameBytes
 packed-same [] [] l h k = refl
 packed-same [] (y ∷ ys) l h k = absurd (omega arith)
@@ -118,7 +118,7 @@ packed-same (x ∷ xs) (y ∷ ys) l h k =
 eight-more : (n : ℕ) → 2 ^ (8 * suc n) ≡ 2 ^ (8 * n) * 256
 eight-more n = let e : 8 * suc n ≡ 8 * n + 8 = omega arith in rw (e, pow-add 2 (8 * n) 8)
 
-packed-below : (xs : List ℕ) → AreBytes xs → packed xs < 2 ^ (8 * length xs)
+pub packed-below : (xs : List ℕ) → AreBytes xs → packed xs < 2 ^ (8 * length xs)
 unfolding packed
 packed-below [] h = omega arith
 packed-below (x ∷ xs) h = rw eight-more (omega (arith, packed-below xs (λ (j : ℕ). h (suc j)), h 0))
@@ -143,6 +143,18 @@ shifted-out n s l k h w =
     let fits = shl-lt (8 * length (take n l)) s small in
     rw (split-at n l k, add-mul, mul-assoc (packed (drop n l)) (2 ^ (8 * n)) (2 ^ s), ← pow-add 2 (8 * n) s, w)
     (digits-mod (packed (drop n l)) {m = 2 ^ 64} (rw (length-take-le n l k, w) at fits))
+
+-- what a shift leaves of the first eight bytes
+shifted : (n : ℕ) (l : List ℕ) → n ≤ 8 → n ≤ length l → AreBytes l
+    → packed (take 8 l) * 2 ^ (64 - 8 * n) % 2 ^ 64 ≡ packed (take n l) * 2 ^ (64 - 8 * n)
+shifted n l h k b =
+    shifted-out n (64 - 8 * n) (take 8 l) (omega (arith, length-take 8 l)) (take-bytes 8 l b) (omega arith)
+    ∙ ap (λ (y : List ℕ). packed y * 2 ^ (64 - 8 * n)) (take-take n 8 l h)
+
+-- and what is left when it is shifted back
+pub shifted-back : (n : ℕ) (l : List ℕ) → n ≤ 8 → n ≤ length l → AreBytes l
+    → packed (take 8 l) * 2 ^ (64 - 8 * n) % 2 ^ 64 / 2 ^ (64 - 8 * n) ≡ packed (take n l)
+shifted-back n l h k b = ap (λ (x : ℕ). x / 2 ^ (64 - 8 * n)) (shifted n l h k b) ∙ shl-shr (packed (take n l)) (64 - 8 * n)
 
 shifted-test : (s x y : ℕ) → eqb (x * 2 ^ s) (y * 2 ^ s) ≡ eqb x y
 shifted-test s x y =
@@ -180,12 +192,7 @@ module _ (a b : List ℕ) (ea : 8 ≤ length a) (eb : 8 ≤ length b) (ha : AreB
       → eqb (firstEight a * 2 ^ (64 - 8 * n) % 2 ^ 64) (firstEight b * 2 ^ (64 - 8 * n) % 2 ^ 64) ≡ sameBytes (take n a) (take n b)
   unfolding firstEight
   shifted-same n h =
-      rw (le-ltb (length a) 8 ea, le-ltb (length b) 8 eb, shifted a ea ha, shifted b eb hb, shifted-test (64 - 8 * n)) (front-same n h)
-    where
-      shifted : (x : List ℕ) → 8 ≤ length x → AreBytes x → packed (take 8 x) * 2 ^ (64 - 8 * n) % 2 ^ 64 ≡ packed (take n x) * 2 ^ (64 - 8 * n)
-      shifted x l hx =
-          shifted-out n (64 - 8 * n) (take 8 x) (omega (arith, length-take 8 x)) (take-bytes 8 x hx) (omega arith)
-          ∙ ap (λ (y : List ℕ). packed y * 2 ^ (64 - 8 * n)) (take-take n 8 x h)
+      rw (le-ltb (length a) 8 ea, le-ltb (length b) 8 eb, shifted n a h (omega arith) ha, shifted n b h (omega arith) hb, shifted-test (64 - 8 * n)) (front-same n h)
 
 -- ---- eight bytes in both
 

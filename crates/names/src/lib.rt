@@ -3,4 +3,5 @@ mod names;
 mod packed;
 
 pub use names::same_prefix;
+pub use packed::first_bytes;
 pub use packed::first_eight;

@@ -1,5 +1,5 @@
 -- What is remembered of what was fetched.
-use Prim.Native.Nat.{ℕ, _+_, _*_, _/_, _%_, _^_, _<_}
+use Prim.Native.Nat.{ℕ, zero, suc, _+_, _*_, _/_, _%_, _^_, _<_}
 use mathlib.Core.Bool.{Bool, true, false}
 use mathlib.Core.List.{List}
 use mathlib.Core.Logic.{_⊎_, inl, inr}
@@ -7,15 +7,15 @@ use mathlib.Core.Path.{_≡_, refl, sym, ap, _∙_, subst⁻¹}
 use native.Mathlib.Omega.{arith}
 use borrow.Author.Tests.{eqb-true, eqb-false, ltb-true, ltb-false}
 use lib.Dec.{eqb, ltb}
-use lib.ListN.{length, getD, set}
+use lib.ListN.{length, getD, set, replicate}
 use lib.Seq.{getD-set-same, getD-set-other, set-out}
 use Rattle.stack_assembly.specs.Script.{Script, Tables, scriptIn}
-use Rattle.words.specs.Table.{theTable}
+use Rattle.stack_assembly.specs.Step.{fetched}
 use Rattle.fetch.proofs.Fetched.{fetched-is}
 use Rattle.fetch.specs.declared.codes.Code.{Code}
 use Rattle.steps.specs.Private.{Finds, decoded, Remembers, Knows}
 use Rattle.steps.proofs.Comes.{code-end}
-use Rattle.fetch.specs.Codes.{fetchedOf, Fetches}
+use Rattle.fetch.specs.Codes.{fetchedOf, codeOf, Small}
 
 -- the word that a code is remembered by
 abbrev wordOf : Code → ℕ
@@ -64,9 +64,14 @@ module _ {s : Script} {known : List ℕ} (k : Knows s known) where
   knows-more f (inl e) = subst⁻¹ (Knows s) e k
   knows-more f (inr (h, e)) = subst⁻¹ (Knows s) e (remembered h f)
 
--- nothing is known
-pub knows-none : (s : Script) (known : List ℕ) → ((at : ℕ) → getD known at 0 ≡ 0) → Knows s known
-knows-none s known h = record { each = λ at. inl (h at) }
+-- nothing is known where nothing was remembered
+zeros-at : (n at : ℕ) → _≡_ {A = ℕ} (getD (replicate n 0) at 0) 0
+zeros-at zero at = refl
+zeros-at (suc n) zero = refl
+zeros-at (suc n) (suc at) = zeros-at n at
 
-pub finds : {table : List (List ℕ)} {tables : Tables} {next : ℕ} {c : Code} → table ≡ theTable → Fetches table tables next c → Finds (scriptIn tables) next c
-finds t f = record { fetched = fetched-is f t; small = f .small }
+pub knows-none : (s : Script) (n : ℕ) → Knows s (replicate n 0)
+knows-none s n = record { each = λ at. inl (zeros-at n at) }
+
+pub finds : (tables : Tables) (next : ℕ) {c : Code} → c ≡ codeOf (fetched (scriptIn tables) next) → Small c → Finds (scriptIn tables) next c
+finds tables next e h = record { fetched = fetched-is tables next e; small = h }

@@ -1,4 +1,4 @@
--- A run in stretches of steps: one after the other, and from the first to the answer.
+-- From the steps of a run to its answer.
 use Prim.Native.Nat.{ℕ, zero, suc, _+_, _-_}
 use mathlib.Core.Bool.{Bool, true, false, _||_}
 use mathlib.Core.List.{List}
@@ -19,39 +19,6 @@ use Rattle.steps.specs.declared.budget.Ran.{Ran}
 use Rattle.steps.specs.Runs.{Fits, machineIn, RunMade}
 use Rattle.steps.specs.Private.{counted, Start, whole, Going, Ended, Goes, ranBy}
 use Rattle.steps.proofs.Comes.{kept-same}
-
-module _ {s : Script} (a b : ℕ) {n : ℕ} {store : Store} {os cs ms : List ℕ} {first : Stretch} {os₁ cs₁ ms₁ : List ℕ}
-    (e : a + b ≡ n) (g : Goes s a store os cs ms first os₁ cs₁ ms₁) where
-  together : (further : ℕ) → n + further ≡ a + (b + further)
-  together further = omega (arith, e)
-
-  -- the first stretch ended the run
-  pub goes-ended : (first .number ≡ 0 → ⊥)
-      → Goes s n store os cs ms (record { store = first .store; number = first .number; value = first .value; left = first .left + b }) os₁ cs₁ ms₁
-  goes-ended z =
-      record {
-        fits = g .fits;
-        least = omega (arith, g .least, e);
-        more = λ _. omega (arith, g .more z);
-        spent = λ q. absurd (z q);
-        ended = λ _ start further going.
-            let k : first .left + (b + further) ≡ first .left + b + further = omega arith in
-            subst (λ (i : ℕ). Ended s start (record { store = first .store; number = first .number; value = first .value; left = i }) os₁ cs₁ ms₁) k
-            (g .ended z start (b + further) (subst (λ (i : ℕ). Going s start i store os cs ms) (together further) going));
-      }
-
-  -- the second goes on from it
-  pub goes-on : first .number ≡ 0 → {r : Stretch} {os′ cs′ ms′ : List ℕ} → Goes s b (first .store) os₁ cs₁ ms₁ r os′ cs′ ms′ → Goes s n store os cs ms r os′ cs′ ms′
-  goes-on z h =
-      record {
-        fits = h .fits;
-        least = omega (arith, h .least, e);
-        more = h .more;
-        spent = λ q start further going. h .spent q start further (g .spent z start (b + further) (subst (λ (i : ℕ). Going s start i store os cs ms) (together further) going));
-        ended = λ q start further going. h .ended q start further (g .spent z start (b + further) (subst (λ (i : ℕ). Going s start i store os cs ms) (together further) going));
-      }
-
--- ---- from the start
 
 none-counted : (d : Done) → d ≡ counted 0 d
 none-counted d = ap (λ (k : ℕ). done (d .answer .number) (d .answer .value) k (d .machine)) (sym (zero-add (d .answer .steps)))
@@ -96,12 +63,6 @@ module _ {s : Script} {budget : ℕ} {store : Store} {os cs ms : List ℕ} {e : 
           let k : e .left + 0 ≡ e .left = omega arith in
           rw (ne-eqb (e .number) 0 some)
           (record { answer = rw k at (end .same); small = end .small; operands = end .operands; calls = end .calls })
-
--- ---- nothing is remembered yet
-pub zeros-at : (n at : ℕ) → _≡_ {A = ℕ} (getD (replicate n 0) at 0) 0
-zeros-at zero at = refl
-zeros-at (suc n) zero = refl
-zeros-at (suc n) (suc at) = zeros-at n at
 
 -- ---- 25
 module _ {store : Store} {os cs : List ℕ} where

@@ -76,9 +76,9 @@ abbrev pub Returns : Store → (cs : List ℕ) → Outcome → Type 0
 Returns s cs r = (room : Room) (os ms : List ℕ) → s .«operand_depth» ≤ length os
     → Comes (evaluated room return (advanced (storeIn s os cs ms))) s os cs ms r os cs ms
 
--- `yield` raises effect 11, no operator 8, no label 6, no word 10.
+-- `yield` raises effect 11, no word 10, no label 6, no operator 8.
 abbrev pub effectOf : (op : ℕ) → ℕ
-effectOf op = cond (eqb op 31) 11 (cond (eqb op 32) 8 (cond (eqb op 34) 6 10))
+effectOf op = cond (eqb op 31) 11 (cond (eqb op 32) 10 (cond (eqb op 34) 6 8))
 
 -- A code for what the definition fetches.
 pub record Finds (s : Script) (next : ℕ) (c : Code) : Type 0 where

@@ -1,8 +1,6 @@
 // A run with a budget, from a state without a standing effect.
 ghost use mathlib.Core.Path.{_≡_};
-ghost use Prim.Native.Nat.{_<_};
 ghost use Rattle.stack_assembly.specs.Script.{scriptIn};
-ghost use Rattle.words.specs.Table.{theTable};
 ghost use Rattle.fetch.specs.Codes.{lent};
 ghost use Rattle.steps.specs.Runs.{Fits, Runs};
 ghost use Rattle.steps.specs.Private.{Goes, ranBy, Bounded};
@@ -49,9 +47,7 @@ fn finished(end: Stretch, budget: u32) -> Ran
     }
 }
 
-// To remember costs more than to look again while few operators are met twice.
-fn first_steps(
-    table: &[[u8; 16]; 34],
+fn one_step(
     text: &[u8],
     operators: &[u32],
     labels: &[u32],
@@ -61,13 +57,12 @@ fn first_steps(
     memory: &mut [u32],
     budget: u32,
 ) -> Stretch
-    requires { ⌜ Fits store (now «operand_stack») (now «call_stack») × (now table ≡ theTable) ⌝ }
+    requires { ⌜ Fits store (now «operand_stack») (now «call_stack») ⌝ }
     ensures { λ r. ⌜ Goes (scriptIn (lent (now (text .entry)) (now (operators .entry)) (now (labels .entry)))) budget store (now («operand_stack» .entry)) (now («call_stack» .entry)) (now (memory .entry)) r (now («operand_stack» .exit)) (now («call_stack» .exit)) (now (memory .exit)) ⌝ }
 {
-    let mut none = [0; 1];
+    let mut known = [0; 1];
     steps(
-        &mut none[..0],
-        table,
+        &mut known,
         text,
         operators,
         labels,
@@ -79,8 +74,7 @@ fn first_steps(
     )
 }
 
-fn later_steps(
-    table: &[[u8; 16]; 34],
+fn steps_of_few(
     text: &[u8],
     operators: &[u32],
     labels: &[u32],
@@ -90,13 +84,39 @@ fn later_steps(
     memory: &mut [u32],
     budget: u32,
 ) -> Stretch
-    requires { ⌜ Fits store (now «operand_stack») (now «call_stack») × (now table ≡ theTable) ⌝ }
+    requires { ⌜ Fits store (now «operand_stack») (now «call_stack») ⌝ }
+    ensures { λ r. ⌜ Goes (scriptIn (lent (now (text .entry)) (now (operators .entry)) (now (labels .entry)))) budget store (now («operand_stack» .entry)) (now («call_stack» .entry)) (now (memory .entry)) r (now («operand_stack» .exit)) (now («call_stack» .exit)) (now (memory .exit)) ⌝ }
+{
+    let mut known = [0; 64];
+    steps(
+        &mut known,
+        text,
+        operators,
+        labels,
+        store,
+        operand_stack,
+        call_stack,
+        memory,
+        budget,
+    )
+}
+
+fn steps_of_many(
+    text: &[u8],
+    operators: &[u32],
+    labels: &[u32],
+    store: Store,
+    operand_stack: &mut [u32],
+    call_stack: &mut [u32],
+    memory: &mut [u32],
+    budget: u32,
+) -> Stretch
+    requires { ⌜ Fits store (now «operand_stack») (now «call_stack») ⌝ }
     ensures { λ r. ⌜ Goes (scriptIn (lent (now (text .entry)) (now (operators .entry)) (now (labels .entry)))) budget store (now («operand_stack» .entry)) (now («call_stack» .entry)) (now (memory .entry)) r (now («operand_stack» .exit)) (now («call_stack» .exit)) (now (memory .exit)) ⌝ }
 {
     let mut known = [0; 256];
     steps(
         &mut known,
-        table,
         text,
         operators,
         labels,
@@ -108,8 +128,8 @@ fn later_steps(
     )
 }
 
+// What is remembered has to be cleared first, which costs more than it saves where it is larger than the script.
 fn all_steps(
-    table: &[[u8; 16]; 34],
     text: &[u8],
     operators: &[u32],
     labels: &[u32],
@@ -119,12 +139,11 @@ fn all_steps(
     memory: &mut [u32],
     budget: u32,
 ) -> Stretch
-    requires { ⌜ Fits store (now «operand_stack») (now «call_stack») × (now table ≡ theTable) ⌝ }
+    requires { ⌜ Fits store (now «operand_stack») (now «call_stack») ⌝ }
     ensures { λ r. ⌜ Goes (scriptIn (lent (now (text .entry)) (now (operators .entry)) (now (labels .entry)))) budget store (now («operand_stack» .entry)) (now («call_stack» .entry)) (now (memory .entry)) r (now («operand_stack» .exit)) (now («call_stack» .exit)) (now (memory .exit)) ⌝ }
 {
-    if budget <= 256 {
-        return first_steps(
-            table,
+    if budget == 1 {
+        return one_step(
             text,
             operators,
             labels,
@@ -135,9 +154,19 @@ fn all_steps(
             budget,
         );
     }
-    let rest = budget - 256;
-    let first = first_steps(
-        table,
+    if operators.len() <= 256 {
+        return steps_of_few(
+            text,
+            operators,
+            labels,
+            store,
+            operand_stack,
+            call_stack,
+            memory,
+            budget,
+        );
+    }
+    steps_of_many(
         text,
         operators,
         labels,
@@ -145,28 +174,7 @@ fn all_steps(
         operand_stack,
         call_stack,
         memory,
-        256,
-    );
-    let after = first.store;
-    let number = first.number;
-    if number != 0 {
-        return Stretch {
-            store: after,
-            number,
-            value: first.value,
-            left: first.left + rest,
-        };
-    }
-    later_steps(
-        table,
-        text,
-        operators,
-        labels,
-        after,
-        operand_stack,
-        call_stack,
-        memory,
-        rest,
+        budget,
     )
 }
 
@@ -190,10 +198,8 @@ pub fn run(
             steps: 0,
         };
     }
-    let table = words::table();
     finished(
         all_steps(
-            &table,
             text,
             operators,
             labels,

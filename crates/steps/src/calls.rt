@@ -1,20 +1,26 @@
 // The call stack: `call`, `call_either` and `return`.
+ghost use mathlib.Core.Path.{_≡_};
 ghost use Prim.Native.Nat.{_≤_, _<_};
 ghost use lib.ListN.{length};
 ghost use Rattle.stack_assembly.specs.Operators.{evaluated};
 ghost use Rattle.words.specs.Places.{wordAt};
-ghost use Rattle.steps.specs.Private.{ComesOnCalls, Returns};
+ghost use Rattle.steps.specs.Private.{nextAfter, ComesOnCalls, Returns};
 ghost use Rattle.steps.specs.Runs.{Fits};
 use crate::outcome::Outcome;
 use crate::outcome::Store;
 use crate::outcome::going_on;
 use crate::outcome::leaving;
-use crate::outcome::next_after;
 use operators::Stack;
 use operators::enter;
 
-fn call(place: usize, store: Store, operand_stack: &[u32], call_stack: &mut [u32]) -> Outcome
-    requires { ⌜ Fits store (now «operand_stack») (now «call_stack») × ((25 ≤ place) × (place < 27)) ⌝ }
+fn call(
+    place: usize,
+    store: Store,
+    after: u32,
+    operand_stack: &[u32],
+    call_stack: &mut [u32],
+) -> Outcome
+    requires { ⌜ Fits store (now «operand_stack») (now «call_stack») × ((25 ≤ place) × (place < 27)) × (after ≡ nextAfter store) ⌝ }
     ensures { λ r. ⌜ ComesOnCalls (λ room m. evaluated room (wordAt place) m) store (now («operand_stack» .entry)) (now («call_stack» .entry)) r (now («call_stack» .exit)) ⌝ }
 {
     let depth = store.call_depth;
@@ -25,23 +31,23 @@ fn call(place: usize, store: Store, operand_stack: &[u32], call_stack: &mut [u32
             value: depth,
         };
     }
-    let next = next_after(store);
     let operand_depth = store.operand_depth;
-    call_stack[depth] = next;
+    call_stack[depth] = after;
     going_on(
-        enter(place - 25, next, &operand_stack[..operand_depth]),
+        enter(place - 25, after, &operand_stack[..operand_depth]),
         depth + 1,
     )
 }
 
-fn return_from(store: Store, call_stack: &[u32]) -> Outcome
-    requires { ⌜ store .«call_depth» ≤ length (now «call_stack») ⌝ }
+fn return_from(store: Store, after: u32, call_stack: &[u32]) -> Outcome
+    requires { ⌜ (store .«call_depth» ≤ length (now «call_stack»)) × (after ≡ nextAfter store) ⌝ }
     ensures { λ r. ⌜ Returns store (now («call_stack» .entry)) r ⌝ }
 {
     let depth = store.call_depth;
     if depth == 0 {
         return leaving(
             store,
+            after,
             Stack {
                 depth: store.operand_depth,
                 effect: 9,
@@ -62,14 +68,15 @@ fn return_from(store: Store, call_stack: &[u32]) -> Outcome
 pub(crate) fn calls(
     place: usize,
     store: Store,
+    after: u32,
     operand_stack: &[u32],
     call_stack: &mut [u32],
 ) -> Outcome
-    requires { ⌜ Fits store (now «operand_stack») (now «call_stack») × ((25 ≤ place) × (place < 28)) ⌝ }
+    requires { ⌜ Fits store (now «operand_stack») (now «call_stack») × ((25 ≤ place) × (place < 28)) × (after ≡ nextAfter store) ⌝ }
     ensures { λ r. ⌜ ComesOnCalls (λ room m. evaluated room (wordAt place) m) store (now («operand_stack» .entry)) (now («call_stack» .entry)) r (now («call_stack» .exit)) ⌝ }
 {
     if place < 27 {
-        return call(place, store, operand_stack, call_stack);
+        return call(place, store, after, operand_stack, call_stack);
     }
-    return_from(store, call_stack)
+    return_from(store, after, call_stack)
 }

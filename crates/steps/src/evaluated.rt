@@ -4,7 +4,7 @@ ghost use Prim.Native.Nat.{_≤_, _<_, _^_};
 ghost use lib.ListN.{length};
 ghost use Rattle.stack_assembly.specs.Operators.{evaluated};
 ghost use Rattle.stack_assembly.specs.Step.{advanced, pushed, outcome};
-ghost use Rattle.steps.specs.Private.{Comes, ComesOn, ComesOnMemory, effectOf};
+ghost use Rattle.steps.specs.Private.{nextAfter, Comes, ComesOn, ComesOnMemory, effectOf};
 ghost use Rattle.steps.specs.Runs.{storeIn, Fits, room};
 ghost use Rattle.words.specs.Places.{wordAt};
 ghost use Rattle.fetch.specs.Codes.{fetchedOf, Small};
@@ -13,7 +13,6 @@ use crate::outcome::Outcome;
 use crate::outcome::Store;
 use crate::outcome::going_on;
 use crate::outcome::leaving;
-use crate::outcome::next_after;
 use fetch::Code;
 use operators::Stack;
 use operators::assert;
@@ -21,8 +20,8 @@ use operators::binary;
 use operators::jump;
 use operators::stack;
 
-fn push(value: usize, store: Store, operand_stack: &mut [u32]) -> Outcome
-    requires { ⌜ (store .«operand_depth» ≤ length (now «operand_stack»)) × (value < 2 ^ 32) ⌝ }
+fn push(value: usize, store: Store, after: u32, operand_stack: &mut [u32]) -> Outcome
+    requires { ⌜ (store .«operand_depth» ≤ length (now «operand_stack»)) × (value < 2 ^ 32) × (after ≡ nextAfter store) ⌝ }
     ensures { λ r. ⌜ ComesOn (λ room m. pushed room value m) store (now («operand_stack» .entry)) r (now («operand_stack» .exit)) ⌝ }
 {
     let depth = store.operand_depth;
@@ -36,6 +35,7 @@ fn push(value: usize, store: Store, operand_stack: &mut [u32]) -> Outcome
     operand_stack[depth] = (value % 0x1_0000_0000) as u32;
     leaving(
         store,
+        after,
         Stack {
             depth: depth + 1,
             effect: 0,
@@ -43,35 +43,42 @@ fn push(value: usize, store: Store, operand_stack: &mut [u32]) -> Outcome
     )
 }
 
-fn on_stack(place: usize, store: Store, operand_stack: &mut [u32]) -> Outcome
-    requires { ⌜ (store .«operand_depth» ≤ length (now «operand_stack»)) × (place < 21) ⌝ }
+fn on_stack(place: usize, store: Store, after: u32, operand_stack: &mut [u32]) -> Outcome
+    requires { ⌜ (store .«operand_depth» ≤ length (now «operand_stack»)) × (place < 21) × (after ≡ nextAfter store) ⌝ }
     ensures { λ r. ⌜ ComesOn (λ room m. evaluated room (wordAt place) m) store (now («operand_stack» .entry)) r (now («operand_stack» .exit)) ⌝ }
 {
     let depth = store.operand_depth;
     if place < 15 {
-        return leaving(store, binary(place, &mut operand_stack[..depth]));
+        return leaving(store, after, binary(place, &mut operand_stack[..depth]));
     }
-    leaving(store, stack(place - 15, &mut operand_stack[..depth]))
+    leaving(store, after, stack(place - 15, &mut operand_stack[..depth]))
 }
 
-fn on_memory(place: usize, store: Store, operand_stack: &mut [u32], memory: &mut [u32]) -> Outcome
-    requires { ⌜ (store .«operand_depth» ≤ length (now «operand_stack»)) × ((21 ≤ place) × (place < 23)) ⌝ }
+fn on_memory(
+    place: usize,
+    store: Store,
+    after: u32,
+    operand_stack: &mut [u32],
+    memory: &mut [u32],
+) -> Outcome
+    requires { ⌜ (store .«operand_depth» ≤ length (now «operand_stack»)) × ((21 ≤ place) × (place < 23)) × (after ≡ nextAfter store) ⌝ }
     ensures { λ r. ⌜ ComesOnMemory (λ room m. evaluated room (wordAt place) m) store (now («operand_stack» .entry)) (now (memory .entry)) r (now («operand_stack» .exit)) (now (memory .exit)) ⌝ }
 {
     let depth = store.operand_depth;
     leaving(
         store,
+        after,
         operators::memory(place - 21, &mut operand_stack[..depth], memory),
     )
 }
 
-fn jumps(place: usize, store: Store, operand_stack: &[u32]) -> Outcome
-    requires { ⌜ (store .«operand_depth» ≤ length (now «operand_stack»)) × ((23 ≤ place) × (place < 25)) ⌝ }
+fn jumps(place: usize, store: Store, after: u32, operand_stack: &[u32]) -> Outcome
+    requires { ⌜ (store .«operand_depth» ≤ length (now «operand_stack»)) × ((23 ≤ place) × (place < 25)) × (after ≡ nextAfter store) ⌝ }
     ensures { λ r. ⌜ ComesOn (λ room m. evaluated room (wordAt place) m) store (now («operand_stack» .entry)) r (now («operand_stack» .entry)) ⌝ }
 {
     let depth = store.operand_depth;
     going_on(
-        jump(place - 23, next_after(store), &operand_stack[..depth]),
+        jump(place - 23, after, &operand_stack[..depth]),
         store.call_depth,
     )
 }
@@ -84,22 +91,22 @@ fn effect_of(op: usize) -> u32
         return 11;
     }
     if op == 32 {
-        return 8;
+        return 10;
     }
     if op == 34 {
         return 6;
     }
-    10
+    8
 }
 
-fn ends(code: Code, store: Store, operand_stack: &[u32]) -> Outcome
-    requires { ⌜ (store .«operand_depth» ≤ length (now «operand_stack»)) × (30 ≤ code .op) ⌝ }
+fn ends(code: Code, store: Store, after: u32, operand_stack: &[u32]) -> Outcome
+    requires { ⌜ (store .«operand_depth» ≤ length (now «operand_stack»)) × (30 ≤ code .op) × (after ≡ nextAfter store) ⌝ }
     ensures { λ r. ⌜ ComesOn (λ room m. outcome room (fetchedOf code) m) store (now («operand_stack» .entry)) r (now («operand_stack» .entry)) ⌝ }
 {
     let op = code.op;
     let depth = store.operand_depth;
     if op == 30 {
-        return leaving(store, assert(&operand_stack[..depth]));
+        return leaving(store, after, assert(&operand_stack[..depth]));
     }
     if op == 33 {
         return Outcome {
@@ -110,6 +117,7 @@ fn ends(code: Code, store: Store, operand_stack: &[u32]) -> Outcome
     }
     leaving(
         store,
+        after,
         Stack {
             depth,
             effect: effect_of(op),
@@ -120,29 +128,30 @@ fn ends(code: Code, store: Store, operand_stack: &[u32]) -> Outcome
 pub(crate) fn evaluated(
     code: Code,
     store: Store,
+    after: u32,
     operand_stack: &mut [u32],
     call_stack: &mut [u32],
     memory: &mut [u32],
 ) -> Outcome
-    requires { ⌜ Fits store (now «operand_stack») (now «call_stack») × Small code ⌝ }
+    requires { ⌜ Fits store (now «operand_stack») (now «call_stack») × Small code × (after ≡ nextAfter store) ⌝ }
     ensures { λ r. ⌜ Comes (outcome (room (now («operand_stack» .entry)) (now («call_stack» .entry))) (fetchedOf code) (advanced (storeIn store (now («operand_stack» .entry)) (now («call_stack» .entry)) (now (memory .entry))))) store (now («operand_stack» .entry)) (now («call_stack» .entry)) (now (memory .entry)) r (now («operand_stack» .exit)) (now («call_stack» .exit)) (now (memory .exit)) ⌝ }
 {
     let op = code.op;
     if op < 2 {
-        return push(code.value, store, operand_stack);
+        return push(code.value, store, after, operand_stack);
     }
     let place = op - 2;
     if place < 21 {
-        return on_stack(place, store, operand_stack);
+        return on_stack(place, store, after, operand_stack);
     }
     if place < 23 {
-        return on_memory(place, store, operand_stack, memory);
+        return on_memory(place, store, after, operand_stack, memory);
     }
     if place < 25 {
-        return jumps(place, store, operand_stack);
+        return jumps(place, store, after, operand_stack);
     }
     if place < 28 {
-        return calls(place, store, operand_stack, call_stack);
+        return calls(place, store, after, operand_stack, call_stack);
     }
-    ends(code, store, operand_stack)
+    ends(code, store, after, operand_stack)
 }

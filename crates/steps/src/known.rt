@@ -2,11 +2,11 @@
 ghost use mathlib.Core.Path.{_≡_};
 ghost use lib.ListN.{getD};
 ghost use Rattle.stack_assembly.specs.Script.{scriptIn};
-ghost use Rattle.words.specs.Table.{theTable};
 ghost use Rattle.steps.specs.Private.{Finds, Knows, decoded, Remembers};
 ghost use Rattle.fetch.specs.Codes.{lent};
 use fetch::Code;
 use fetch::fetch;
+use fetch::integer;
 
 // 0 past the end, as for what is not known.
 fn recalled(known: &[u64], next: u32) -> u64
@@ -46,20 +46,26 @@ fn remember(known: &mut [u64], next: u32, code: Code)
 
 pub(crate) fn fetched(
     known: &mut [u64],
-    table: &[[u8; 16]; 34],
     text: &[u8],
     operators: &[u32],
     labels: &[u32],
     next: u32,
 ) -> Code
-    requires { ⌜ (now table ≡ theTable) × Knows (scriptIn (lent (now text) (now operators) (now labels))) (now known) ⌝ }
+    requires { ⌜ Knows (scriptIn (lent (now text) (now operators) (now labels))) (now known) ⌝ }
     ensures { λ r. ⌜ Finds (scriptIn (lent (now (text .entry)) (now (operators .entry)) (now (labels .entry)))) next r × Knows (scriptIn (lent (now (text .entry)) (now (operators .entry)) (now (labels .entry)))) (now (known .exit)) ⌝ }
 {
     let word = recalled(known, next);
     if word != 0 {
         return decoded(word);
     }
-    let code = fetch(table, text, operators, labels, next);
+    // An integer needs no more than its record.
+    let integer = integer(text, operators, next);
+    let op = integer.op;
+    if op == 1 {
+        remember(known, next, integer);
+        return integer;
+    }
+    let code = fetch(text, operators, labels, next);
     remember(known, next, code);
     code
 }

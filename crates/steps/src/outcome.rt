@@ -23,13 +23,14 @@ pub(crate) fn next_after(store: Store) -> u32
     word::wrapping_add(store.next_operator, 1)
 }
 
-// The operand stack is left as it says.
-pub(crate) fn leaving(store: Store, stack: Stack) -> Outcome
+// The operand stack is left as it says. What comes after is worked out once, before the operators are told apart.
+pub(crate) fn leaving(store: Store, after: u32, stack: Stack) -> Outcome
+    requires { ⌜ after ≡ nextAfter store ⌝ }
     ensures { λ r. ⌜ r ≡ leaving store stack ⌝ }
 {
     Outcome {
         store: Store {
-            next_operator: next_after(store),
+            next_operator: after,
             operand_depth: stack.depth,
             call_depth: store.call_depth,
         },

@@ -2,13 +2,13 @@
 ghost use mathlib.Core.Path.{_≡_};
 ghost use Prim.Native.Nat.{_<_, _^_};
 ghost use Rattle.stack_assembly.specs.Script.{scriptIn};
-ghost use Rattle.words.specs.Table.{theTable};
 ghost use Rattle.steps.specs.Private.{Knows, Goes, valueOf};
 ghost use Rattle.fetch.specs.Codes.{lent};
 ghost use Rattle.steps.specs.Runs.{Fits};
 use crate::evaluated::evaluated;
 use crate::known::fetched;
 use crate::outcome::Store;
+use crate::outcome::next_after;
 
 // How steps ended: 0 where the budget is used, else an effect or a refusal with its value; and what was left of the budget before the last one.
 pub(crate) struct Stretch {
@@ -30,7 +30,6 @@ fn value_of(number: u32, value: usize, next: u32) -> usize
 
 pub(crate) fn steps(
     known: &mut [u64],
-    table: &[[u8; 16]; 34],
     text: &[u8],
     operators: &[u32],
     labels: &[u32],
@@ -40,15 +39,16 @@ pub(crate) fn steps(
     memory: &mut [u32],
     budget: u32,
 ) -> Stretch
-    requires { ⌜ Fits store (now «operand_stack») (now «call_stack») × ((now table ≡ theTable) × Knows (scriptIn (lent (now text) (now operators) (now labels))) (now known)) ⌝ }
+    requires { ⌜ Fits store (now «operand_stack») (now «call_stack») × Knows (scriptIn (lent (now text) (now operators) (now labels))) (now known) ⌝ }
     ensures { λ r. ⌜ Goes (scriptIn (lent (now (text .entry)) (now (operators .entry)) (now (labels .entry)))) budget store (now («operand_stack» .entry)) (now («call_stack» .entry)) (now (memory .entry)) r (now («operand_stack» .exit)) (now («call_stack» .exit)) (now (memory .exit)) ⌝ }
 {
     let mut current = store;
     let mut left = budget;
     while 0 < left {
         let next = current.next_operator;
-        let code = fetched(known, table, text, operators, labels, next);
-        let outcome = evaluated(code, current, operand_stack, call_stack, memory);
+        let code = fetched(known, text, operators, labels, next);
+        let advanced = next_after(current);
+        let outcome = evaluated(code, current, advanced, operand_stack, call_stack, memory);
         let after = outcome.store;
         let number = outcome.number;
         if number != 0 {

@@ -1,3 +1,3 @@
--- The table of the 30 words, and the lookup in it.
-pub mod Table
+-- The places of the 30 words, and the table of the code.
 pub mod Places
+pub mod Private

@@ -1,11 +1,10 @@
--- The places of the 30 words, in the order of the definition's table, and what the lookup by the index owes to it.
+-- The places of the 30 words, in the order of the definition's table.
 use Prim.Native.Nat.{ℕ, _<_}
 use mathlib.Core.List.{List, map}
 use mathlib.Core.Option.{Option, none, some}
 use mathlib.Core.Path.{_≡_}
 use lib.ListN.{getD}
-use Rattle.stack_assembly.specs.Words.{Word, Row, words, lookup, mul, add, sub, lt, le, eq, gt, ge, and, or, xor, rotate-left, rotate-right, shift-left, shift-right, count-ones, leading-zeros, trailing-zeros, copy, drop, div, read, write, jump, jump-if, call, call-either, return, assert, yield}
-use Rattle.words.specs.Table.{theTable, foundIn}
+use Rattle.stack_assembly.specs.Words.{Word, Row, words, mul, add, sub, lt, le, eq, gt, ge, and, or, xor, rotate-left, rotate-right, shift-left, shift-right, count-ones, leading-zeros, trailing-zeros, copy, drop, div, read, write, jump, jump-if, call, call-either, return, assert, yield}
 
 -- A word's place.
 abbrev pub place : Word → ℕ
@@ -49,8 +48,7 @@ placeOf (some w) = place w
 unfoldable pub wordAt : (place : ℕ) → Word
 wordAt i = getD (map (λ (r : Row). r .word) words) i yield
 
--- On the constant table every name is found where the definition finds it, or by neither; and each of 30 places tells the word that has it.
+-- Each of 30 places tells the word that has it.
 pub record Right : Type 0 where
-  pub found : (name : List ℕ) → foundIn theTable name ≡ placeOf (lookup name words)
   pub below : (w : Word) → place w < 30
   pub again : (w : Word) → wordAt (place w) ≡ w

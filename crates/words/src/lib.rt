@@ -2,4 +2,3 @@
 mod rows;
 
 pub use rows::find;
-pub use rows::table;

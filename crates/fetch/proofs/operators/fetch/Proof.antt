@@ -9,7 +9,7 @@ wide-requires c κs = search needs
 returns : tie.Need-returns
 returns c =
     let args = c .before .before .before .before .before .args in
-    past-last (args .table .now) (args .text .now) (args .operators .now) (args .labels .now) (c .before .wide .ensures .0) (c .if1 .taken)
+    past-last (args .text .now) (args .operators .now) (args .labels .now) (c .before .wide .ensures .0) (c .if1 .taken)
 
 mul-wide : tie.Need-mul-wide
 mul-wide c = search needs
@@ -97,7 +97,7 @@ at-operator c =
     }
 
 returns-2 : tie.Need-returns-2
-returns-2 c = damaged-operator (at-operator (c .before)) _ _ (c .if2 .taken)
+returns-2 c = damaged-operator (at-operator (c .before)) _ (c .if2 .taken)
 
 of-kind-requires : tie.Need-of-kind-requires
 of-kind-requires c κs =
@@ -105,7 +105,7 @@ of-kind-requires c κs =
     (whole .0, whole .1, whole .2, c .before .before .wide5 .ensures .1)
 
 returns-3 : tie.Need-returns-3
-returns-3 c = the-operator (at-operator (c .before .before)) _ _ (c .before .if2 .left) (c .of-kind .ensures)
+returns-3 c = the-operator (at-operator (c .before .before)) _ (c .before .if2 .left) (c .of-kind .ensures)
 
 pub fetch-spec : {M : Type 1} → statement M
 fetch-spec =

@@ -1,24 +1,23 @@
+use native.Mathlib.Omega.{arith}
 use borrow.Author.Needs.{needs}
 use lib.ListN.{take}
-use Rattle.fetch.proofs.Fetched.{identifies-none, identifies-word}
+use Rattle.stack_assembly.specs.Words.{words, lookup}
+use Rattle.fetch.proofs.Fetched.{identified-is, place-most}
 use Rattle.fetch.proofs.operators.identify.Statement.{statement}
 use Rattle.fetch.proofs.operators.identify.Tie as tie
 
 find-requires : tie.Need-find-requires
 find-requires c κs = search needs
 
+add-t4 : tie.Need-add-t4
+add-t4 c =
+    let args = c .before .before .args in
+    record { fits = omega (arith, c .find .ensures, place-most (lookup (take (args .n) (args .name .now)) words)) }
+
 returns : tie.Need-returns
 returns c =
-    let args = c .before .before .before .args in
-    identifies-none (args .table .now) (take (args .n) (args .name .now)) (c .before .find .ensures) (c .if1 .taken)
-
-add-t6 : tie.Need-add-t6
-add-t6 c = search needs
-
-returns-2 : tie.Need-returns-2
-returns-2 c =
-    let args = c .before .before .before .args in
-    identifies-word (args .table .now) (take (args .n) (args .name .now)) (c .before .find .ensures) (search needs)
+    let args = c .before .before .args in
+    identified-is (lookup (take (args .n) (args .name .now)) words) (c .find .ensures)
 
 pub identify-spec : {M : Type 1} → statement M
-identify-spec = tie.close (tie.spec find-requires returns add-t6 returns-2)
+identify-spec = tie.close (tie.spec find-requires add-t4 returns)

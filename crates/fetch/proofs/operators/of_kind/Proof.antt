@@ -27,13 +27,13 @@ returns c =
     let start = c .before .before .before .before .before in
     let args = start .args in
     let identified = rw (to-the-end (args .start) (args .text .now)) at (c .identify .ensures) in
-    of-identifier (args .table .now) (args .text .now) (args .labels .now) (args .start) (args .end) (args .value) (search needs) (start .pre .1) identified
+    of-identifier (args .text .now) (args .labels .now) (args .start) (args .end) (args .value) (search needs) (start .pre .1) identified
 
 returns-2 : tie.Need-returns-2
 returns-2 c =
     let start = c .before .before .before .before in
     let args = start .args in
-    of-integer (args .table .now) (args .text .now) (args .labels .now) (args .start) (args .end) (args .value) (search needs) (start .pre .3)
+    of-integer (args .text .now) (args .labels .now) (args .start) (args .end) (args .value) (search needs) (start .pre .3)
 
 add-resolve : tie.Need-add-resolve
 add-resolve c = search needs
@@ -62,7 +62,7 @@ returns-3 c =
     let args = start .args in
     let two : args .kind ≡ 2 = omega arith in
     let resolved = rw (to-the-end (args .start + 1) (args .text .now)) at (c .resolve .ensures .0) in
-    of-reference (args .table .now) (args .text .now) (args .labels .now) (args .start) (args .end) (args .value) two (start .pre .1) resolved (c .resolve .ensures .1)
+    of-reference (args .text .now) (args .labels .now) (args .start) (args .end) (args .value) two (start .pre .1) resolved (c .resolve .ensures .1)
 
 pub of-kind-spec : {M : Type 1} → statement M
 of-kind-spec =

@@ -18,7 +18,7 @@ returns-2 : tie.Need-returns-2
 unfolding firstEight
 returns-2 c =
     let start = c .before .before .before in
-    c .eight .ensures ∙ packed-eight (start .args .bytes .now) (c .before .if1 .left) ∙ rw (le-ltb (length (start .args .bytes .now)) 8 (c .before .if1 .left))
+    c .eight .ensures ∙ packed-eight (start .args .bytes .now) ∙ rw (le-ltb (length (start .args .bytes .now)) 8 (c .before .if1 .left))
 
 pub first-eight-spec : {M : Type 1} → statement M
 first-eight-spec = tie.close (tie.spec returns eight-requires returns-2)

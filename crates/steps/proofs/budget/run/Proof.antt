@@ -8,14 +8,10 @@ use Rattle.steps.proofs.budget.run.Tie as tie
 returns : tie.Need-returns
 returns c = Runs.refused (unfit (c .if1 .taken)) refl refl refl refl
 
-table-requires : tie.Need-table-requires
-table-requires c κs = search needs
-
 all-steps-requires : tie.Need-all-steps-requires
 all-steps-requires c κs =
-    let at-table = c .before .before .before .before in
-    let at-if1 = at-table .before in
-    (fit (at-if1 .if1 .left), at-table .table .ensures)
+    let at-if1 = c .before .before .before in
+    fit (at-if1 .if1 .left)
 
 finished-requires : tie.Need-finished-requires
 finished-requires c κs =
@@ -34,7 +30,7 @@ same-length-3 c = search needs
 returns-2 : tie.Need-returns-2
 returns-2 c =
     let at-all-steps = c .before .before .before .before .before .before .before in
-    let at-if1 = at-all-steps .before .before .before .before .before .before in
+    let at-if1 = at-all-steps .before .before .before .before in
     Runs.made (fit (at-if1 .if1 .left)) (ran-made (at-all-steps .all-steps .ensures) (fit (at-if1 .if1 .left)) (c .finished .ensures))
 
 pub run-spec : {M : Type 1} → statement M
@@ -42,7 +38,6 @@ run-spec =
     tie.close
     (tie.spec
     returns
-    table-requires
     all-steps-requires
     finished-requires
     same-length

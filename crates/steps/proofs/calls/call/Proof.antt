@@ -10,9 +10,6 @@ returns c =
     let start = c .before .before .before in
     call-full (start .args .place) (start .pre .1) (start .args .store) (start .args .operand-stack .now) (start .args .call-stack .now) (c .if1 .taken) (start .pre .0 .calls)
 
-next-after-requires : tie.Need-next-after-requires
-next-after-requires c κs = search needs
-
 mul-call-stack : tie.Need-mul-call-stack
 mul-call-stack c = search needs
 
@@ -24,7 +21,7 @@ sub-enter c = search needs
 
 slice-aggregate-enter : tie.Need-slice-aggregate-enter
 slice-aggregate-enter c =
-    let start = c .before .before .before .before .before in
+    let start = c .before .before .before .before in
     sym (length-take-le (start .args .store .«operand_depth») (start .args .operand-stack .now) (start .pre .0 .operands))
 
 enter-requires : tie.Need-enter-requires
@@ -41,17 +38,15 @@ same-length c = search needs
 
 returns-2 : tie.Need-returns-2
 returns-2 c =
-    let at-next-after = c .before .before .before in
-    let at-if1 = at-next-after .before in
+    let at-if1 = c .before .before .before in
     let start = at-if1 .before .before .before in
-    call-comes (start .args .place) (start .pre .1) (start .args .store) (start .args .operand-stack .now) (start .args .call-stack .now) (at-if1 .if1 .left) (c .before .enter .result) (at-next-after .next-after .ensures) (c .before .enter .ensures) (c .going-on .ensures)
+    call-comes (start .args .place) (start .pre .1) (start .args .store) (start .args .operand-stack .now) (start .args .call-stack .now) (at-if1 .if1 .left) (c .before .enter .result) (start .pre .2) (c .before .enter .ensures) (c .going-on .ensures)
 
 pub call-spec : {M : Type 1} → statement M
 call-spec =
     tie.close
     (tie.spec
     returns
-    next-after-requires
     mul-call-stack
     slice-write-call-stack
     sub-enter

@@ -8,7 +8,7 @@ use Rattle.steps.proofs.calls.calls.Tie as tie
 call-requires : tie.Need-call-requires
 call-requires c κs =
     let start = c .before .before .before .before in
-    (start .pre .0, (start .pre .1 .0, c .before .if1 .taken))
+    (start .pre .0, (start .pre .1 .0, c .before .if1 .taken), start .pre .2)
 
 same-length : tie.Need-same-length
 same-length c = search needs
@@ -21,7 +21,7 @@ returns c =
 return-from-requires : tie.Need-return-from-requires
 return-from-requires c κs =
     let start = c .before .before .before .before in
-    start .pre .0 .calls
+    (start .pre .0 .calls, start .pre .2)
 
 same-length-2 : tie.Need-same-length-2
 same-length-2 c = search needs

@@ -11,7 +11,7 @@ use Rattle.steps.proofs.evaluated.evaluated.Tie as tie
 push-requires : tie.Need-push-requires
 push-requires c κs =
     let start = c .before .before .before .before .before in
-    (start .pre .0 .operands, start .pre .1 (c .before .if1 .taken))
+    (start .pre .0 .operands, start .pre .1 (c .before .if1 .taken), start .pre .2)
 
 same-length : tie.Need-same-length
 same-length c = search needs
@@ -26,7 +26,7 @@ returns c =
 on-stack-requires : tie.Need-on-stack-requires
 on-stack-requires c κs =
     let start = c .before .before .before .before .before .before in
-    (start .pre .0 .operands, c .before .if2 .taken)
+    (start .pre .0 .operands, c .before .if2 .taken, start .pre .2)
 
 same-length-2 : tie.Need-same-length-2
 same-length-2 c = search needs
@@ -42,7 +42,7 @@ on-memory-requires c κs =
     let at-if3 = c .before .before in
     let at-if2 = at-if3 .before in
     let start = at-if2 .before .before .before .before .before in
-    (start .pre .0 .operands, (at-if2 .if2 .left, at-if3 .if3 .taken))
+    (start .pre .0 .operands, (at-if2 .if2 .left, at-if3 .if3 .taken), start .pre .2)
 
 same-length-3 : tie.Need-same-length-3
 same-length-3 c = search needs
@@ -60,7 +60,7 @@ jumps-requires : tie.Need-jumps-requires
 jumps-requires c κs =
     let at-if3 = c .before .before in
     let start = at-if3 .before .before .before .before .before .before in
-    (start .pre .0 .operands, (at-if3 .if3 .left, c .before .if4 .taken))
+    (start .pre .0 .operands, (at-if3 .if3 .left, c .before .if4 .taken), start .pre .2)
 
 same-length-5 : tie.Need-same-length-5
 same-length-5 c = search needs
@@ -75,7 +75,7 @@ calls-requires c κs =
     let at-if5 = c .before .before in
     let at-if4 = at-if5 .before in
     let start = at-if4 .before .before .before .before .before .before .before in
-    (start .pre .0, (at-if4 .if4 .left, at-if5 .if5 .taken))
+    (start .pre .0, (at-if4 .if4 .left, at-if5 .if5 .taken), start .pre .2)
 
 same-length-6 : tie.Need-same-length-6
 same-length-6 c = search needs
@@ -92,7 +92,7 @@ returns-5 c =
 ends-requires : tie.Need-ends-requires
 ends-requires c κs =
     let start = c .before .before .before .before .before .before .before .before .before in
-    (start .pre .0 .operands, omega arith)
+    (start .pre .0 .operands, omega arith, start .pre .2)
 
 same-length-8 : tie.Need-same-length-8
 same-length-8 c = search needs

@@ -9,12 +9,9 @@ use Rattle.steps.proofs.evaluated.jumps.Tie as tie
 sub-jump : tie.Need-sub-jump
 sub-jump c = search needs
 
-next-after-requires : tie.Need-next-after-requires
-next-after-requires c κs = search needs
-
 slice-aggregate-jump : tie.Need-slice-aggregate-jump
 slice-aggregate-jump c =
-    let start = c .before .before .before in
+    let start = c .before .before in
     sym (length-take-le (start .args .store .«operand_depth») (start .args .operand-stack .now) (start .pre .0))
 
 jump-requires : tie.Need-jump-requires
@@ -25,16 +22,14 @@ going-on-requires c κs = search needs
 
 returns : tie.Need-returns
 returns c =
-    let at-next-after = c .before .before .before in
-    let start = at-next-after .before .before in
-    on-word (jump-word (start .args .place) (start .pre .1 .0) (start .pre .1 .1)) (comes-on-next (start .args .store) (start .args .operand-stack .now) (start .pre .0) (c .before .jump .result) (rw (at-next-after .next-after .ensures) at (c .before .jump .ensures)) (c .going-on .ensures))
+    let start = c .before .before .before .before in
+    on-word (jump-word (start .args .place) (start .pre .1 .0) (start .pre .1 .1)) (comes-on-next (start .args .store) (start .args .operand-stack .now) (start .pre .0) (c .before .jump .result) (rw (start .pre .2) at (c .before .jump .ensures)) (c .going-on .ensures))
 
 pub jumps-spec : {M : Type 1} → statement M
 jumps-spec =
     tie.close
     (tie.spec
     sub-jump
-    next-after-requires
     slice-aggregate-jump
     jump-requires
     going-on-requires

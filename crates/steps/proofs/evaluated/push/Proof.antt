@@ -17,8 +17,8 @@ mul-operand-stack c = search needs
 slice-write-operand-stack : tie.Need-slice-write-operand-stack
 slice-write-operand-stack c = search needs
 
-add-t5 : tie.Need-add-t5
-add-t5 c = search needs
+add-t6 : tie.Need-add-t6
+add-t6 c = search needs
 
 leaving-requires : tie.Need-leaving-requires
 leaving-requires c κs = search needs
@@ -39,7 +39,7 @@ push-spec =
     cast-operand-stack
     mul-operand-stack
     slice-write-operand-stack
-    add-t5
+    add-t6
     leaving-requires
     same-length
     returns-2)

@@ -12,7 +12,7 @@ use Rattle.steps.proofs.steps.steps.Statement.{statement}
 use Rattle.steps.proofs.steps.steps.Tie as tie
 
 abbrev Inv-loop : tie.InvT-loop
-Inv-loop known₀ table text operators labels operand-stack₀ call-stack₀ memory₀ budget current₀ left₀ known operand-stack call-stack memory current left =
+Inv-loop known₀ text operators labels operand-stack₀ call-stack₀ memory₀ budget current₀ left₀ known operand-stack call-stack memory current left =
     (length known ≡ length known₀) × (length operand-stack ≡ length operand-stack₀) × (length call-stack ≡ length call-stack₀) × (length memory ≡ length memory₀)
     × Fits current operand-stack call-stack
     × Knows (scriptIn (lent text operators labels)) known
@@ -21,57 +21,60 @@ Inv-loop known₀ table text operators labels operand-stack₀ call-stack₀ mem
     × (left ≤ left₀)
 
 abbrev μ-loop : tie.MeasureT-loop
-μ-loop known₀ table text operators labels operand-stack₀ call-stack₀ memory₀ budget current₀ left₀ known operand-stack call-stack memory current left =
+μ-loop known₀ text operators labels operand-stack₀ call-stack₀ memory₀ budget current₀ left₀ known operand-stack call-stack memory current left =
     left
 
 loop-holds : tie.Need-loop-holds Inv-loop μ-loop
 loop-holds c =
     let start = c .before .before .before .before .before .before .before in
-    (refl, refl, refl, refl, start .pre .0, start .pre .1 .1, λ start further g. g, omega arith)
+    (refl, refl, refl, refl, start .pre .0, start .pre .1, λ start further g. g, omega arith)
 
 fetched-requires : tie.Need-fetched-requires Inv-loop μ-loop
 fetched-requires c κs =
     let at-loop = c .before .before in
-    let start = at-loop .before .before .before .before .before .before .before .before in
-    (start .pre .1 .0, at-loop .loop .inv .5)
+    at-loop .loop .inv .5
+
+next-after-requires : tie.Need-next-after-requires Inv-loop μ-loop
+next-after-requires c κs = search needs
 
 evaluated-requires : tie.Need-evaluated-requires Inv-loop μ-loop
 evaluated-requires c κs =
-    let at-fetched = c .before .before .before .before .before in
+    let at-next-after = c .before .before .before in
+    let at-fetched = at-next-after .before .before .before in
     let at-loop = at-fetched .before .before .before in
-    (at-loop .loop .inv .4, at-fetched .fetched .ensures .0 .small)
+    (at-loop .loop .inv .4, at-fetched .fetched .ensures .0 .small, at-next-after .next-after .ensures)
 
 value-of-requires : tie.Need-value-of-requires Inv-loop μ-loop
 value-of-requires c κs = search needs
 
 same-length : tie.Need-same-length Inv-loop μ-loop
 same-length c =
-    let at-fetched = c .before .before .before .before .before .before .before .before .before .before .before .before .before .before .before in
+    let at-fetched = c .before .before .before .before .before .before .before .before .before .before .before .before .before .before .before .before in
     let at-loop = at-fetched .before .before .before in
     at-fetched .fetched .kept .0 ∙ at-loop .loop .inv .0
 
 same-length-2 : tie.Need-same-length-2 Inv-loop μ-loop
 same-length-2 c =
     let at-evaluated = c .before .before .before .before .before .before .before .before .before in
-    let at-loop = at-evaluated .before .before .before .before .before .before .before .before .before in
-    at-evaluated .evaluated .kept .1 .1 .0 ∙ at-loop .loop .inv .1
+    let at-loop = at-evaluated .before .before .before .before .before .before .before .before .before .before in
+    at-evaluated .evaluated .kept .1 .1 .1 .0 ∙ at-loop .loop .inv .1
 
 same-length-3 : tie.Need-same-length-3 Inv-loop μ-loop
 same-length-3 c =
     let at-evaluated = c .before .before .before .before .before .before .before .before .before in
-    let at-loop = at-evaluated .before .before .before .before .before .before .before .before .before in
-    at-evaluated .evaluated .kept .1 .1 .1 .0 ∙ at-loop .loop .inv .2
+    let at-loop = at-evaluated .before .before .before .before .before .before .before .before .before .before in
+    at-evaluated .evaluated .kept .1 .1 .1 .1 .0 ∙ at-loop .loop .inv .2
 
 same-length-4 : tie.Need-same-length-4 Inv-loop μ-loop
 same-length-4 c =
     let at-evaluated = c .before .before .before .before .before .before .before .before .before in
-    let at-loop = at-evaluated .before .before .before .before .before .before .before .before .before in
-    at-evaluated .evaluated .kept .1 .1 .1 .1 .0 ∙ at-loop .loop .inv .3
+    let at-loop = at-evaluated .before .before .before .before .before .before .before .before .before .before in
+    at-evaluated .evaluated .kept .1 .1 .1 .1 .1 .0 ∙ at-loop .loop .inv .3
 
 returns : tie.Need-returns Inv-loop μ-loop
 returns c =
     let at-evaluated = c .before .before .before .before .before .before .before .before .before in
-    let at-fetched = at-evaluated .before .before .before .before .before .before in
+    let at-fetched = at-evaluated .before .before .before .before .before .before .before in
     let at-loop = at-fetched .before .before .before in
     record {
       fits = record { operands = at-evaluated .evaluated .ensures .operands .holds; calls = at-evaluated .evaluated .ensures .calls .holds };
@@ -90,12 +93,12 @@ loop-less c = search needs
 loop-again : tie.Need-loop-again Inv-loop μ-loop
 loop-again c =
     let at-evaluated = c .before .before .before .before .before .before .before .before in
-    let at-fetched = at-evaluated .before .before .before .before .before .before in
+    let at-fetched = at-evaluated .before .before .before .before .before .before .before in
     let at-loop = at-fetched .before .before .before in (
       at-fetched .fetched .kept .0 ∙ at-loop .loop .inv .0,
-      at-evaluated .evaluated .kept .1 .1 .0 ∙ at-loop .loop .inv .1,
-      at-evaluated .evaluated .kept .1 .1 .1 .0 ∙ at-loop .loop .inv .2,
-      at-evaluated .evaluated .kept .1 .1 .1 .1 .0 ∙ at-loop .loop .inv .3,
+      at-evaluated .evaluated .kept .1 .1 .1 .0 ∙ at-loop .loop .inv .1,
+      at-evaluated .evaluated .kept .1 .1 .1 .1 .0 ∙ at-loop .loop .inv .2,
+      at-evaluated .evaluated .kept .1 .1 .1 .1 .1 .0 ∙ at-loop .loop .inv .3,
       record { operands = at-evaluated .evaluated .ensures .operands .holds; calls = at-evaluated .evaluated .ensures .calls .holds },
       at-fetched .fetched .ensures .1,
       λ start further g. going-more (at-loop .loop .inv .6 start further g) (at-fetched .fetched .ensures .0) (at-evaluated .evaluated .ensures) (at-loop .loop .left - 1 + further) (omega arith) (c .if1 .left),
@@ -132,6 +135,7 @@ steps-spec =
     μ-loop
     loop-holds
     fetched-requires
+    next-after-requires
     evaluated-requires
     value-of-requires
     same-length

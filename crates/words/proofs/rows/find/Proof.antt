@@ -1,9 +1,7 @@
-use mathlib.Core.Bool.{cond}
-use mathlib.Core.Path.{_≡_}
+use Prim.Native.Nat.{ℕ}
+use native.Mathlib.Omega.{arith}
 use borrow.Author.Needs.{needs}
-use lib.ListN.{take}
-use Rattle.words.specs.Table.{foundIn}
-use Rattle.words.proofs.Found.{no-name, a-name, found-at}
+use Rattle.words.proofs.Words.{no-name, a-name, of-one, of-several}
 use Rattle.words.proofs.rows.find.Statement.{statement}
 use Rattle.words.proofs.rows.find.Tie as tie
 
@@ -12,35 +10,62 @@ shorter-requires c κs = search needs
 
 returns : tie.Need-returns
 returns c =
-    let args = c .before .before .before .args in
-    no-name (args .table .now) (args .text .now) (args .length) (c .before .shorter .ensures) (c .if1 .taken)
+    let known = c .before .before in
+    let args = known .before .args in
+    no-name (args .text .now) (λ (k : ℕ). known .shared-slice-known .given k .fits) (args .length) (c .before .shorter .ensures) (c .if1 .taken)
 
-hash-requires : tie.Need-hash-requires
-hash-requires c κs =
-    let args = c .before .before .before .args in
-    a-name (args .table .now) (args .text .now) (args .length) (c .before .shorter .ensures) (c .if1 .left)
+packed-requires : tie.Need-packed-requires
+packed-requires c κs =
+    let at-shorter = c .before .before in
+    let known = at-shorter .before in
+    let args = known .before .args in
+    let name = a-name (args .text .now) (λ (k : ℕ). known .shared-slice-known .given k .fits) (args .length) (at-shorter .shorter .ensures) (c .before .if1 .left) in
+    (omega arith, omega arith, omega (arith, name .0, name .2))
 
-place-at-requires : tie.Need-place-at-requires
-place-at-requires c κs = search needs
-
-holds-requires : tie.Need-holds-requires
-holds-requires c κs = search needs
-
-found : (c : tie.After-holds)
-    → let args = c .before .before .before .before .before .before .args in
-    cond (c .holds .result) (c .before .place-at .result) 30 ≡ foundIn (args .table .now) (take (args .length) (args .text .now))
-found c =
-    let at-place = c .before in
-    let at-if1 = at-place .before .before in
-    let args = at-if1 .before .before .before .args in
-    found-at (args .table .now) (args .text .now) (args .length) (at-if1 .before .shorter .ensures) (at-if1 .if1 .left)
-    (at-place .before .hash .ensures .0) (at-place .place-at .ensures .0) (c .holds .ensures)
+one-byte-requires : tie.Need-one-byte-requires
+one-byte-requires c κs = search needs
 
 returns-2 : tie.Need-returns-2
-returns-2 c = rw (c .if2 .taken) at (found (c .before))
+returns-2 c =
+    let at-if2 = c .before .before in
+    let at-shorter = at-if2 .before .before in
+    let known = at-shorter .before in
+    let args = known .before .args in
+    of-one (args .text .now) (λ (k : ℕ). known .shared-slice-known .given k .fits) (args .length) (at-shorter .shorter .ensures) (at-if2 .before .if1 .left)
+    (at-if2 .if2 .taken) (c .before .packed .ensures) (c .one-byte .ensures)
+
+shorter-requires-2 : tie.Need-shorter-requires-2
+shorter-requires-2 c κs = search needs
+
+packed-requires-2 : tie.Need-packed-requires-2
+packed-requires-2 c κs =
+    let at-shorter = c .before .before .before in
+    let known = at-shorter .before in
+    let args = known .before .args in
+    let name = a-name (args .text .now) (λ (k : ℕ). known .shared-slice-known .given k .fits) (args .length) (at-shorter .shorter .ensures) (c .before .before .if1 .left) in
+    let e = c .shorter2 .ensures in
+    (omega (arith, e, name .0), omega (arith, e), omega (arith, e, name .2))
+
+tail-requires : tie.Need-tail-requires
+tail-requires c κs =
+    let at-shorter = c .before .before .before .before in
+    let known = at-shorter .before in
+    let args = known .before .args in
+    let name = a-name (args .text .now) (λ (k : ℕ). known .shared-slice-known .given k .fits) (args .length) (at-shorter .shorter .ensures) (c .before .before .before .if1 .left) in
+    (name .1, name .2)
+
+several-bytes-requires : tie.Need-several-bytes-requires
+several-bytes-requires c κs = search needs
 
 returns-3 : tie.Need-returns-3
-returns-3 c = rw (c .if2 .left) at (found (c .before))
+returns-3 c =
+    let at-packed = c .before .before in
+    let at-if2 = at-packed .before .before in
+    let at-shorter = at-if2 .before .before in
+    let known = at-shorter .before in
+    let args = known .before .args in
+    of-several (args .text .now) (λ (k : ℕ). known .shared-slice-known .given k .fits) (args .length) (at-shorter .shorter .ensures) (at-if2 .before .if1 .left)
+    (at-if2 .if2 .left) (rw (at-packed .before .shorter2 .ensures) at (at-packed .packed2 .ensures)) (c .before .tail .ensures) (c .several-bytes .ensures)
 
 pub find-spec : {M : Type 1} → statement M
 find-spec =
@@ -48,8 +73,11 @@ find-spec =
     (tie.spec
     shorter-requires
     returns
-    hash-requires
-    place-at-requires
-    holds-requires
+    packed-requires
+    one-byte-requires
     returns-2
+    shorter-requires-2
+    packed-requires-2
+    tail-requires
+    several-bytes-requires
     returns-3)

@@ -1,10 +1,9 @@
-use Rattle.steps.proofs.Stretches.{zeros-at}
 use Rattle.stack_assembly.specs.Script.{scriptIn}
 use Rattle.fetch.specs.Codes.{lent}
 use Rattle.steps.proofs.Remembering.{knows-none}
 use borrow.Author.Needs.{needs}
-use Rattle.steps.proofs.budget.later_steps.Statement.{statement}
-use Rattle.steps.proofs.budget.later_steps.Tie as tie
+use Rattle.steps.proofs.budget.steps_of_many.Statement.{statement}
+use Rattle.steps.proofs.budget.steps_of_many.Tie as tie
 
 slice-aggregate-steps : tie.Need-slice-aggregate-steps
 slice-aggregate-steps c = search needs
@@ -12,7 +11,7 @@ slice-aggregate-steps c = search needs
 steps-requires : tie.Need-steps-requires
 steps-requires c κs =
     let start = c .before .before .before .before .before .before .before .before .before .before in
-    (start .pre .0, (start .pre .1, knows-none (scriptIn (lent (start .args .text .now) (start .args .operators .now) (start .args .labels .now))) _ (λ at. zeros-at 256 at)))
+    (start .pre, knows-none (scriptIn (lent (start .args .text .now) (start .args .operators .now) (start .args .labels .now))) 256)
 
 same-length : tie.Need-same-length
 same-length c = search needs
@@ -28,7 +27,7 @@ returns c =
     let at-steps = c .before .before .before .before .before .before .before in
     at-steps .steps .ensures
 
-pub later-steps-spec : {M : Type 1} → statement M
-later-steps-spec =
+pub steps-of-many-spec : {M : Type 1} → statement M
+steps-of-many-spec =
     tie.close
     (tie.spec slice-aggregate-steps steps-requires same-length same-length-2 same-length-3 returns)

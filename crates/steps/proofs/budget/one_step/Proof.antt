@@ -1,13 +1,9 @@
-use mathlib.Core.Path.{refl}
 use Rattle.stack_assembly.specs.Script.{scriptIn}
 use Rattle.fetch.specs.Codes.{lent}
 use Rattle.steps.proofs.Remembering.{knows-none}
 use borrow.Author.Needs.{needs}
-use Rattle.steps.proofs.budget.first_steps.Statement.{statement}
-use Rattle.steps.proofs.budget.first_steps.Tie as tie
-
-array-borrow-prefix-none : tie.Need-array-borrow-prefix-none
-array-borrow-prefix-none c = search needs
+use Rattle.steps.proofs.budget.one_step.Statement.{statement}
+use Rattle.steps.proofs.budget.one_step.Tie as tie
 
 slice-aggregate-steps : tie.Need-slice-aggregate-steps
 slice-aggregate-steps c = search needs
@@ -15,7 +11,7 @@ slice-aggregate-steps c = search needs
 steps-requires : tie.Need-steps-requires
 steps-requires c κs =
     let start = c .before .before .before .before .before .before .before .before .before .before in
-    (start .pre .0, (start .pre .1, knows-none (scriptIn (lent (start .args .text .now) (start .args .operators .now) (start .args .labels .now))) _ (λ at. refl)))
+    (start .pre, knows-none (scriptIn (lent (start .args .text .now) (start .args .operators .now) (start .args .labels .now))) 1)
 
 same-length : tie.Need-same-length
 same-length c = search needs
@@ -31,14 +27,7 @@ returns c =
     let at-steps = c .before .before .before .before .before .before .before in
     at-steps .steps .ensures
 
-pub first-steps-spec : {M : Type 1} → statement M
-first-steps-spec =
+pub one-step-spec : {M : Type 1} → statement M
+one-step-spec =
     tie.close
-    (tie.spec
-    array-borrow-prefix-none
-    slice-aggregate-steps
-    steps-requires
-    same-length
-    same-length-2
-    same-length-3
-    returns)
+    (tie.spec slice-aggregate-steps steps-requires same-length same-length-2 same-length-3 returns)
