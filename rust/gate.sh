@@ -7,7 +7,7 @@ if ! command -v cargo > /dev/null; then
     echo "cargo is not at hand: nothing is compared with the Rust"
     exit 0
 fi
-(cd .. && rt staticlib stack_assembly_c)
+./staticlib.sh
 cargo test --offline --quiet -p stack-assembly -p model
 if ! oracle/import.sh; then
     echo "the Rust's sources are not at hand: nothing is compared with the Rust"

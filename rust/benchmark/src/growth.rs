@@ -1,6 +1,6 @@
 //! What grows with what: compile by text, a step by script, buffers and labels.
 
-use crate::inputs::{labels, mixed_text};
+use crate::inputs::{labels, mixed_text, straight};
 use crate::sides::{Engine, Rust};
 use std::hint::black_box;
 use std::time::Instant;
@@ -58,5 +58,10 @@ pub fn print(rounds: u32) {
         let text = format!("5000 {} loop: 1 - 0 copy @loop jump_if", labels(before));
         let (rust, engine) = run_ns(rounds, &text, 1024);
         println!("| {before} | {rust:.2} | {engine:.2} |");
+    }
+    heading("A run alone, without the fresh evaluation: each operator is met once", "operators", "step");
+    for count in [20, 50, 100, 300, 1_000] {
+        let (rust, engine) = run_ns(rounds, &straight(count).text, 1024);
+        println!("| {count} | {rust:.2} | {engine:.2} |");
     }
 }

@@ -86,11 +86,12 @@ fn repeated(times: u32, body: &str) -> String {
     format!("{times} loop: {body} 1 - 0 copy @loop jump_if")
 }
 
-pub fn runs() -> Vec<Run> {
+/// Loops: what is met again and again.
+pub fn loops() -> Vec<Run> {
     let arithmetic = "7 * 3 + 2 / - 5 xor 100 < 3 or 1 and 17 > 9 -";
     let long = "3 rotate_left count_ones leading_zeros trailing_zeros 5 rotate_right 2 shift_left 1 shift_right";
     let labels = labels(49);
-    let mut rows = vec![
+    vec![
         run("counting loop", counting_loop()),
         run("calls and returns", format!("{} return f: return", repeated(4_000, "@f call 1 @f @f call_either"))),
         run("reads and writes", repeated(3_000, "5 7 read 1 + write 7 5 read write")),
@@ -98,9 +99,7 @@ pub fn runs() -> Vec<Run> {
         run("long-named words", repeated(1_500, &format!("9 {long} 0 drop"))),
         run("the label is the 1st of 50", format!("{} {labels}", repeated(8_000, ""))),
         run("the label is the 50th", format!("{labels} {}", repeated(8_000, ""))),
-    ];
-    rows.extend([20, 50, 100, 300].map(straight));
-    rows
+    ]
 }
 
 /// Labels with names as long as that of a loop.
@@ -119,8 +118,12 @@ pub fn straight(count: usize) -> Run {
     run(format!("straight line, {count} operators"), tokens.join(" "))
 }
 
-/// The scripts in examples/.
-pub fn examples() -> Vec<Run> {
+/// What is run once a card: rules without a loop in the sizes that clubs write, and the scripts in examples/.
+pub fn cards() -> Vec<Run> {
+    [20, 50, 100, 300].map(straight).into_iter().chain(examples()).collect()
+}
+
+fn examples() -> Vec<Run> {
     let folder = concat!(env!("CARGO_MANIFEST_DIR"), "/../../examples");
     let names = ["differential", "best_of", "stableford"];
     let read = |name: &str| std::fs::read_to_string(format!("{folder}/{name}.stack")).expect("the example is there");

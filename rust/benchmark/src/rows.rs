@@ -26,8 +26,8 @@ const BLOCK: u64 = 20_000;
 pub fn rows() -> Vec<Row> {
     let mut rows: Vec<Row> = inputs::texts().into_iter().map(|texts| compile_row(texts, Engine::new)).collect();
     rows.push(compile_row(inputs::scripts("100 scripts, tables of exactly their size"), Engine::with_exact_tables));
-    rows.extend(inputs::runs().into_iter().chain(inputs::examples()).map(run_row));
-    rows.extend([20, 100, 300].map(|count| card_row(&inputs::straight(count))));
+    rows.extend(inputs::loops().into_iter().map(run_row));
+    rows.extend(inputs::cards().into_iter().map(card_row));
     rows.push(step_row());
     rows
 }
@@ -86,11 +86,11 @@ fn run_row(run: Run) -> Row {
 }
 
 /// All that a host does for a card once the script is compiled: a fresh evaluation, and its run.
-fn card_row(run: &Run) -> Row {
+fn card_row(run: Run) -> Row {
     let (mut rust, mut engine, steps) = both(&run.text);
     let times = BLOCK.div_ceil(steps);
     Row {
-        name: format!("fresh and run, {}", run.name),
+        name: format!("card {}", run.name),
         unit: Unit::Card,
         rust: Box::new(move || {
             timed(times, || {

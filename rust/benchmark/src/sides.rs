@@ -77,12 +77,12 @@ impl Engine {
 
     /// The effect that ends a run, and its steps.
     pub fn run(&mut self) -> (u64, u64) {
-        let out = boundary::run(black_box(&mut self.lent()), u32::MAX);
+        let out = boundary::run(&mut self.lent(), u32::MAX);
         (out[0], out[2])
     }
 
     pub fn step(&mut self) -> u64 {
-        let out = boundary::step(black_box(&mut self.lent()));
+        let out = boundary::step(&mut self.lent());
         self.state = Answer::from(out).state;
         out[0]
     }

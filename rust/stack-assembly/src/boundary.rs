@@ -39,6 +39,7 @@ pub struct Answer {
 }
 
 impl From<[u64; 8]> for Answer {
+    #[inline]
     fn from([number, value, steps, next, operands, calls, effect, operator]: [u64; 8]) -> Self {
         let state = State {
             next_operator: next as u32,
@@ -53,7 +54,7 @@ impl From<[u64; 8]> for Answer {
 
 macro_rules! calls {
     ($($(#[$doc:meta])* $name:ident = $function:ident($($operand:ident),*);)*) => {
-        $($(#[$doc])* pub fn $name(lent: &mut Lent, $($operand: u32),*) -> [u64; 8] {
+        $($(#[$doc])* #[inline] pub fn $name(lent: &mut Lent, $($operand: u32),*) -> [u64; 8] {
             let State { next_operator, operand_depth, call_depth, effect, effect_operator } = lent.state;
             let mut out = [u64::MAX; 8];
             // SAFETY: each pointer and length is a slice's; those that are written to are borrowed alone.
