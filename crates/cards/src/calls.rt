@@ -1,5 +1,4 @@
 // The calls of a host, each a row: which call it is, and its operands. os, cs and ms are the operand stack, the call stack and the memory.
-use crate::print;
 use eval::Answered;
 use eval::Eval;
 use script::Script;
@@ -60,6 +59,24 @@ fn print_call(row: [u32; 3]) {
     }
 }
 
+// With a space before it.
+fn signed(word: u32) {
+    print::bytes(b" ");
+    print::signed(word);
+}
+
+// A stack's depth, and its words from the bottom to the top.
+fn stack(depth: usize, buffer: &[u32]) {
+    let count = print::least(depth, buffer.len());
+    print::number(depth);
+    print::bytes(b":");
+    let mut i = 0;
+    while i < count {
+        signed(buffer[i]);
+        i += 1;
+    }
+}
+
 fn entry_at(state: Eval, cs: &[u32], place: u32) -> Answered {
     let entry = host::call_stack(state.call_depth, cs, place as usize);
     Answered {
@@ -104,9 +121,9 @@ fn print_answer(answered: Answered, os: &[u32], cs: &[u32]) {
     print::bytes(b", next");
     print::number(state.next_operator as usize);
     print::bytes(b", operands");
-    print::stack(state.operand_depth, os);
+    stack(state.operand_depth, os);
     print::bytes(b", calls");
-    print::stack(state.call_depth, cs);
+    stack(state.call_depth, cs);
     print::bytes(b"\n");
 }
 

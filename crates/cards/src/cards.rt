@@ -3,7 +3,6 @@ use crate::calls::clear;
 use crate::calls::entry;
 use crate::calls::run;
 use crate::calls::step;
-use crate::print;
 use crate::show;
 
 fn cards_1_to_5() {

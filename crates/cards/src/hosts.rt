@@ -7,7 +7,6 @@ use crate::calls::read;
 use crate::calls::run;
 use crate::calls::step;
 use crate::calls::write;
-use crate::print;
 use crate::show;
 
 pub(crate) fn examples() {

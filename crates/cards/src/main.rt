@@ -2,7 +2,6 @@
 mod calls;
 mod cards;
 mod hosts;
-mod print;
 mod show;
 
 fn main() {

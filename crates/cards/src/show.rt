@@ -1,8 +1,14 @@
 // A card: a text, how many operand words there are, and a list of calls.
 use crate::calls;
-use crate::print;
 use script::Compiled;
 use script::Script;
+
+fn range(start: u32, end: u32) {
+    print::number(start as usize);
+    print::bytes(b"..");
+    print::decimal(end as u64);
+    print::bytes(b" ");
+}
 
 fn operator_records(script: Script, text: &[u8], operators: &[u32]) {
     let count = print::least(script.operators, print::least(operators.len() / 4, 65535));
@@ -10,7 +16,7 @@ fn operator_records(script: Script, text: &[u8], operators: &[u32]) {
     while (i as usize) < count {
         let at = (i as usize) * 4;
         print::bytes(b"operator");
-        print::range(operators[at + 1], operators[at + 2]);
+        range(operators[at + 1], operators[at + 2]);
         print::quoted(script::map_operator_to_source(script, text, operators, i));
         i += 1;
     }
@@ -30,7 +36,7 @@ fn part(text: &[u8], start: usize, end: usize) -> &[u8] {
 fn label(text: &[u8], start: u32, end: u32, operator: u32) {
     print::bytes(b"label");
     print::number(operator as usize);
-    print::range(start, end);
+    range(start, end);
     print::quoted(part(text, start as usize, end as usize));
 }
 

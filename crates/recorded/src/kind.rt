@@ -5,7 +5,8 @@ ghost use Rattle.recorded.specs.Private.{Counted};
 use crate::case;
 use crate::numbers;
 use crate::parts::after;
-use libc::STDOUT_FILENO;
+use print::bytes;
+use print::decimal;
 
 // How many cases there are, how many agree, and the number of the first that does not, from 1 on; 0 for none.
 pub(crate) struct Tally {
@@ -14,22 +15,14 @@ pub(crate) struct Tally {
     pub first: usize,
 }
 
-fn bytes(s: &[u8]) {
-    io::write_all(STDOUT_FILENO, s);
-}
-
-fn print_number(n: usize) {
-    io::print_decimal(STDOUT_FILENO, n as u64);
-}
-
-pub(crate) fn print(tally: Tally) {
-    print_number(tally.agreeing);
+pub(crate) fn show(tally: Tally) {
+    decimal(tally.agreeing as u64);
     bytes(b" of ");
-    print_number(tally.cases);
+    decimal(tally.cases as u64);
     bytes(b" agree\n");
     if tally.first != 0 {
         bytes(b"the first that does not: ");
-        print_number(tally.first);
+        decimal(tally.first as u64);
         bytes(b"\n");
     }
 }
@@ -97,7 +90,7 @@ pub(crate) fn played(name: &[u8], all: Tally) -> Tally
     let tally = of_file(name);
     bytes(name);
     bytes(b": ");
-    print(tally);
+    show(tally);
     Tally {
         cases: all.cases + tally.cases,
         agreeing: all.agreeing + tally.agreeing,

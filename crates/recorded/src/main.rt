@@ -36,5 +36,5 @@ fn main() {
         agreeing: 0,
         first: 0,
     };
-    kind::print(scripts(texts(none)));
+    kind::show(scripts(texts(none)));
 }

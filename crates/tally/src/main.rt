@@ -1,5 +1,5 @@
 // The program tally: the script on standard input, run once; prints the answer, then each operand from the bottom up.
-mod print;
+mod printed;
 mod tallied;
 
 use libc::STDIN_FILENO;
@@ -23,6 +23,6 @@ fn main() {
     );
     let eval = answered.eval;
     let depth = eval.operand_depth;
-    print::answer(answered.number, answered.value, answered.steps);
-    print::operands(&operand_stack[..depth]);
+    printed::answer(answered.number, answered.value, answered.steps);
+    printed::operands(&operand_stack[..depth]);
 }

@@ -2,7 +2,6 @@
 mod cards;
 mod characters;
 mod limits;
-mod print;
 mod show;
 mod words;
 

@@ -1,14 +1,7 @@
 // What compile makes of a text: its answer, the records, and the source of each operator.
-use crate::print;
+use print::least;
 use script::Compiled;
 use script::Script;
-ghost use Prim.Native.Nat.{_≤_, _<_};
-
-fn least(a: usize, b: usize) -> usize
-    ensures { λ r. ⌜ (r ≤ a) × (r ≤ b) ⌝ }
-{
-    if a < b { a } else { b }
-}
 
 fn operator_records(script: Script, text: &[u8], operators: &[u32]) {
     let count = least(script.operators, least(operators.len() / 4, 65535));

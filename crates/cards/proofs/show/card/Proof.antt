@@ -1,3 +1,4 @@
+use native.Mathlib.Omega.{arith}
 use mathlib.Core.Path.{sym}
 use lib.ListN.{replicate}
 use lib.Seq.{length-take-le}
@@ -72,7 +73,7 @@ array-borrow-prefix-os : tie.Need-array-borrow-prefix-os
 array-borrow-prefix-os c = search needs
 
 slice-aggregate-print-all-3 : tie.Need-slice-aggregate-print-all-3
-slice-aggregate-print-all-3 c = let n = c .before .before .before .before .before .before .before .before .before .before .before .before .before .before .before .before .before .least in sym (length-take-le (n .result) (replicate 8 9) (n .ensures .1))
+slice-aggregate-print-all-3 c = let n = c .before .before .before .before .before .before .before .before .before .before .before .before .before .before .before .before .before .least in sym (length-take-le (n .result) (replicate 8 9) (omega (arith, n .ensures)))
 
 slice-aggregate-print-all-4 : tie.Need-slice-aggregate-print-all-4
 slice-aggregate-print-all-4 c = search needs

@@ -1,8 +1,8 @@
 use Prim.Native.Nat.{_-_, _≤_}
 use borrow.Author.Needs.{needs}
 use lib.ListN.{length}
-use Rattle.texts.proofs.print.quoted.Statement.{statement}
-use Rattle.texts.proofs.print.quoted.Tie as tie
+use Rattle.print.proofs.quoted.Statement.{statement}
+use Rattle.print.proofs.quoted.Tie as tie
 
 abbrev Inv-loop : tie.InvT-loop
 Inv-loop s i₀ t4 i = i ≤ length s

@@ -1,25 +1,14 @@
 use Prim.Native.Nat.{_-_, _≤_}
+use lib.ListN.{length}
 use borrow.Author.Needs.{needs}
-use Rattle.cards.proofs.print.stack.Statement.{statement}
-use Rattle.cards.proofs.print.stack.Tie as tie
+use Rattle.tally.proofs.printed.operands.Statement.{statement}
+use Rattle.tally.proofs.printed.operands.Tie as tie
 
 abbrev Inv-loop : tie.InvT-loop
-Inv-loop depth buffer count i₀ i = i ≤ count
+Inv-loop words i₀ i = i ≤ length words
 
 abbrev μ-loop : tie.MeasureT-loop
-μ-loop depth buffer count i₀ i = count - i
-
-least-requires : tie.Need-least-requires Inv-loop μ-loop
-least-requires c κs = search needs
-
-number-requires : tie.Need-number-requires Inv-loop μ-loop
-number-requires c κs = search needs
-
-slice-aggregate-bytes : tie.Need-slice-aggregate-bytes Inv-loop μ-loop
-slice-aggregate-bytes c = search needs
-
-bytes-requires : tie.Need-bytes-requires Inv-loop μ-loop
-bytes-requires c κs = search needs
+μ-loop words i₀ i = length words - i
 
 loop-holds : tie.Need-loop-holds Inv-loop μ-loop
 loop-holds c = search needs
@@ -45,16 +34,12 @@ loop-again c = search needs
 returns : tie.Need-returns Inv-loop μ-loop
 returns c = search needs
 
-pub stack-spec : {M : Type 1} → statement M
-stack-spec =
+pub operands-spec : {M : Type 1} → statement M
+operands-spec =
     tie.close
     (tie.spec
     Inv-loop
     μ-loop
-    least-requires
-    number-requires
-    slice-aggregate-bytes
-    bytes-requires
     loop-holds
     mul-signed
     shared-slice-read-signed

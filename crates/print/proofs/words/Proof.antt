@@ -2,8 +2,8 @@ use Prim.Native.Nat.{_-_, _≤_}
 use native.Mathlib.Omega.{arith}
 use borrow.Author.Needs.{needs}
 use lib.ListN.{length}
-use Rattle.texts.proofs.print.words.Statement.{statement}
-use Rattle.texts.proofs.print.words.Tie as tie
+use Rattle.print.proofs.words.Statement.{statement}
+use Rattle.print.proofs.words.Tie as tie
 
 abbrev Inv-loop : tie.InvT-loop
 Inv-loop table i₀ i = i ≤ length table

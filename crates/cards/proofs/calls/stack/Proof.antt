@@ -1,14 +1,19 @@
 use Prim.Native.Nat.{_-_, _≤_}
 use borrow.Author.Needs.{needs}
-use lib.ListN.{length}
-use Rattle.cards.proofs.print.quoted.Statement.{statement}
-use Rattle.cards.proofs.print.quoted.Tie as tie
+use Rattle.cards.proofs.calls.stack.Statement.{statement}
+use Rattle.cards.proofs.calls.stack.Tie as tie
 
 abbrev Inv-loop : tie.InvT-loop
-Inv-loop s i₀ t4 i = i ≤ length s
+Inv-loop depth buffer count i₀ i = i ≤ count
 
 abbrev μ-loop : tie.MeasureT-loop
-μ-loop s i₀ t4 i = length s - i
+μ-loop depth buffer count i₀ i = count - i
+
+least-requires : tie.Need-least-requires Inv-loop μ-loop
+least-requires c κs = search needs
+
+number-requires : tie.Need-number-requires Inv-loop μ-loop
+number-requires c κs = search needs
 
 slice-aggregate-bytes : tie.Need-slice-aggregate-bytes Inv-loop μ-loop
 slice-aggregate-bytes c = search needs
@@ -19,11 +24,14 @@ bytes-requires c κs = search needs
 loop-holds : tie.Need-loop-holds Inv-loop μ-loop
 loop-holds c = search needs
 
-shared-slice-read-byte : tie.Need-shared-slice-read-byte Inv-loop μ-loop
-shared-slice-read-byte c = search needs
+mul-signed : tie.Need-mul-signed Inv-loop μ-loop
+mul-signed c = search needs
 
-byte-requires : tie.Need-byte-requires Inv-loop μ-loop
-byte-requires c κs = search needs
+shared-slice-read-signed : tie.Need-shared-slice-read-signed Inv-loop μ-loop
+shared-slice-read-signed c = search needs
+
+signed-requires : tie.Need-signed-requires Inv-loop μ-loop
+signed-requires c κs = search needs
 
 add-i : tie.Need-add-i Inv-loop μ-loop
 add-i c = search needs
@@ -34,29 +42,24 @@ loop-less c = search needs
 loop-again : tie.Need-loop-again Inv-loop μ-loop
 loop-again c = search needs
 
-slice-aggregate-bytes-2 : tie.Need-slice-aggregate-bytes-2 Inv-loop μ-loop
-slice-aggregate-bytes-2 c = search needs
-
-bytes-requires-2 : tie.Need-bytes-requires-2 Inv-loop μ-loop
-bytes-requires-2 c κs = search needs
-
 returns : tie.Need-returns Inv-loop μ-loop
 returns c = search needs
 
-pub quoted-spec : {M : Type 1} → statement M
-quoted-spec =
+pub stack-spec : {M : Type 1} → statement M
+stack-spec =
     tie.close
     (tie.spec
     Inv-loop
     μ-loop
+    least-requires
+    number-requires
     slice-aggregate-bytes
     bytes-requires
     loop-holds
-    shared-slice-read-byte
-    byte-requires
+    mul-signed
+    shared-slice-read-signed
+    signed-requires
     add-i
     loop-less
     loop-again
-    slice-aggregate-bytes-2
-    bytes-requires-2
     returns)
