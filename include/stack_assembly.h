@@ -1,6 +1,6 @@
 /* The StackAssembly engine for C: compile a script, evaluate it step by step or up to a budget, look at its stacks and memory.
  *
- * Link with libstack_assembly_c.a (`rt staticlib stack_assembly_c` writes it to target/staticlib/). The library allocates
+ * Link with libstack_assembly_c.a (rust/staticlib.sh writes it to target/staticlib/). The library allocates
  * nothing, keeps nothing between calls and calls nothing of yours: all that it works on is lent to it for one call.
  *
  *     uint32_t operators[4 * 64], labels[3 * 16], operands[32], calls[8], memory[16];

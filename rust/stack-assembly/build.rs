@@ -1,4 +1,4 @@
-//! Links the engine's static library, which `rt staticlib stack_assembly_c` writes to target/staticlib in the repository.
+//! Links the engine's static library, which `staticlib.sh` writes to target/staticlib in the repository.
 //! STACK_ASSEMBLY_LIB names another folder.
 
 use std::path::PathBuf;
@@ -10,7 +10,7 @@ fn main() {
     let library = folder.join("libstack_assembly_c.a");
     println!("cargo::rerun-if-changed={}", library.display());
     if !library.is_file() {
-        println!("cargo::error={} is not there: run `rt staticlib stack_assembly_c` first", library.display());
+        println!("cargo::error={} is not there: run `staticlib.sh` first", library.display());
     }
     println!("cargo::rustc-link-search=native={}", folder.display());
     println!("cargo::rustc-link-lib=static=stack_assembly_c");
