@@ -1,3 +1,4 @@
+-- `card` of src/show.rt meets its contract.
 use native.Mathlib.Omega.{arith}
 use mathlib.Core.Path.{sym}
 use lib.ListN.{replicate}

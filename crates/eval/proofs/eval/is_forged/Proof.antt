@@ -1,3 +1,4 @@
+-- `is_forged` of src/eval.rt meets its contract.
 use mathlib.Core.Path.{refl}
 use Rattle.stack_assembly.specs.Host.{forged}
 use Rattle.eval.proofs.eval.is_forged.Statement.{statement}

@@ -1,3 +1,4 @@
+-- `new` of src/eval.rt meets its contract.
 use Rattle.stack_assembly.specs.Host.{fresh}
 use borrow.Author.Needs.{needs}
 use Rattle.eval.proofs.eval.new.Statement.{statement}

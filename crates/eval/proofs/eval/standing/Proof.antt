@@ -1,3 +1,4 @@
+-- `standing` of src/eval.rt meets its contract.
 use borrow.Author.Needs.{needs}
 use Rattle.eval.proofs.eval.standing.Statement.{statement}
 use Rattle.eval.proofs.eval.standing.Tie as tie

@@ -1,3 +1,4 @@
+-- `state_after` of src/eval.rt meets its contract.
 use native.Mathlib.Omega.{arith}
 use borrow.Author.Tests.{lt-ltb, le-ltb}
 use Rattle.eval.proofs.eval.state_after.Statement.{statement}

@@ -1,3 +1,4 @@
+-- `step` of src/eval.rt meets its contract.
 use mathlib.Core.Path.{refl, sym, _∙_}
 use native.Mathlib.Omega.{arith}
 use lib.Seq.{length-take-le}

@@ -1,3 +1,4 @@
+-- The record that is read is the next one of the definition's list; damaged or whole, it says what is fetched.
 use borrow.Author.Needs.{needs}
 use Rattle.fetch.proofs.Fetched.{AtOperator, past-last, whole-operator, damaged-operator, the-operator}
 use Rattle.fetch.proofs.operators.fetch.Statement.{statement}

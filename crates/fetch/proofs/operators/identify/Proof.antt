@@ -1,3 +1,4 @@
+-- A word's code is 2 and its place; 30, the place of none, gives the code of what is unknown.
 use native.Mathlib.Omega.{arith}
 use borrow.Author.Needs.{needs}
 use lib.ListN.{take}

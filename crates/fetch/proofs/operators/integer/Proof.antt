@@ -1,3 +1,4 @@
+-- A whole record of kind 1 is all that the definition looks at.
 use Rattle.fetch.specs.Codes.{lent}
 use Rattle.fetch.proofs.Fetched.{no-integer, an-integer}
 use borrow.Author.Needs.{needs}

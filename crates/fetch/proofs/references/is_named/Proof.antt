@@ -1,3 +1,4 @@
+-- `is_named` of src/references.rt meets its contract.
 use Prim.Native.Nat.{_+_}
 use mathlib.Core.Path.{_≡_}
 use native.Mathlib.Omega.{arith}

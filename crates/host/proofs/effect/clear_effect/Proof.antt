@@ -1,3 +1,4 @@
+-- `clear_effect` of src/effect.rt meets its contract.
 use mathlib.Core.Path.{refl, sym, _∙_}
 use Rattle.stack_assembly.specs.Promise.{Called}
 use Rattle.host.proofs.Hosts.{clear-none, clear-some}

@@ -1,3 +1,4 @@
+-- `call_stack` of src/entries.rt meets its contract.
 use Prim.Native.Nat.{_-_}
 use native.Mathlib.Omega.{arith}
 use Rattle.host.proofs.Places.{entry-forged, entry-absent, entry-zero, entry-there}

@@ -1,3 +1,4 @@
+-- `read` of src/memory.rt meets its contract.
 use mathlib.Core.Path.{refl, sym, _∙_}
 use native.Mathlib.Omega.{arith}
 use Rattle.stack_assembly.specs.Promise.{Called}

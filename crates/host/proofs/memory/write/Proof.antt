@@ -1,3 +1,4 @@
+-- `write` of src/memory.rt meets its contract.
 use mathlib.Core.Path.{refl, sym, _∙_}
 use Rattle.stack_assembly.specs.Promise.{Called}
 use Rattle.host.proofs.Hosts.{write-outside, write-made}

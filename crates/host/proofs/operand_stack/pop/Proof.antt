@@ -1,3 +1,4 @@
+-- `pop` of src/operand_stack.rt meets its contract.
 use Rattle.eval.proofs.Runs.{passed, depth-within}
 use Prim.Native.Nat.{_-_}
 use mathlib.Core.Path.{refl, sym, _∙_}

@@ -1,3 +1,4 @@
+-- `push` of src/operand_stack.rt meets its contract.
 use mathlib.Core.Path.{refl, sym, _∙_}
 use Rattle.stack_assembly.specs.Promise.{Called}
 use Rattle.host.proofs.Hosts.{push-full, push-made}

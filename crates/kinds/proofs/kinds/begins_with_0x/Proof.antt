@@ -1,3 +1,4 @@
+-- `begins_with_0x` of src/kinds.rt meets its contract.
 use borrow.Author.Tests.{eq-eqb, ne-eqb}
 use borrow.Author.Needs.{needs}
 use Rattle.kinds.proofs.kinds.begins_with_0x.Statement.{statement}

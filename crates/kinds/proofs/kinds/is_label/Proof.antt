@@ -1,3 +1,4 @@
+-- `is_label` of src/kinds.rt meets its contract.
 use Prim.Native.Nat.{_-_}
 use native.Mathlib.Omega.{arith}
 use borrow.Author.Needs.{needs}

@@ -1,3 +1,4 @@
+-- `byte_at` of src/numbers.rt meets its contract.
 use mathlib.Core.Path.{sym}
 use borrow.Author.Needs.{needs}
 use lib.ListN.{List·getD-eq-default}

@@ -1,3 +1,4 @@
+-- `digit_of` of src/numbers.rt meets its contract.
 use native.Mathlib.Omega.{arith}
 use borrow.Author.Needs.{needs}
 use Rattle.kinds.specs.Numbers.{digitOf}

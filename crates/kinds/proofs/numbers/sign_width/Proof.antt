@@ -1,3 +1,4 @@
+-- `sign_width` of src/numbers.rt meets its contract.
 use Rattle.kinds.proofs.numbers.sign_width.Statement.{statement}
 use Rattle.kinds.proofs.numbers.sign_width.Tie as tie
 

@@ -1,3 +1,4 @@
+-- `with_sign` of src/numbers.rt meets its contract.
 use Prim.Native.Nat.{_^_}
 use native.Mathlib.Omega.{arith}
 use borrow.Author.Tests.{lt-ltb, le-ltb, le-leb, lt-leb}

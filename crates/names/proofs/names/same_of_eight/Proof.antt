@@ -1,3 +1,4 @@
+-- `same_of_eight` of src/names.rt meets its contract.
 use Prim.Native.Nat.{ℕ}
 use borrow.Author.Needs.{needs}
 use Rattle.names.specs.Names.{sameBytes}

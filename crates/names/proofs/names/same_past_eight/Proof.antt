@@ -1,3 +1,4 @@
+-- `same_past_eight` of src/names.rt meets its contract.
 use Prim.Native.Nat.{ℕ, _-_}
 use mathlib.Core.Path.{_≡_}
 use mathlib.Core.Bool.{_&&_}

@@ -1,3 +1,4 @@
+-- `same_prefix` of src/names.rt meets its contract.
 use borrow.Author.Needs.{needs}
 use Rattle.names.proofs.Same.{eight-in-both}
 use Rattle.names.proofs.names.same_prefix.Statement.{statement}

@@ -1,3 +1,4 @@
+-- `same_rest` of src/names.rt meets its contract.
 use mathlib.Core.Bool.{_||_}
 use borrow.Author.Tests.{ltb-false}
 use borrow.Author.Needs.{needs}

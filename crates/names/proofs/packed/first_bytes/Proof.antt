@@ -1,3 +1,4 @@
+-- `first_bytes` of src/packed.rt meets its contract.
 use mathlib.Core.Path.{_∙_}
 use borrow.Author.Needs.{needs}
 use Rattle.names.proofs.Eight.{packed-eight}

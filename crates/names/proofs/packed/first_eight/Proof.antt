@@ -1,3 +1,4 @@
+-- `first_eight` of src/packed.rt meets its contract.
 use mathlib.Core.Path.{_∙_}
 use borrow.Author.Tests.{lt-ltb, le-ltb}
 use borrow.Author.Needs.{needs}

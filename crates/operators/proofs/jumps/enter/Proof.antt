@@ -1,3 +1,4 @@
+-- `enter` of src/jumps.rt meets its contract.
 use native.Mathlib.Omega.{arith}
 use borrow.Author.Needs.{needs}
 use Rattle.operators.specs.Outcomes.{enteredBy}

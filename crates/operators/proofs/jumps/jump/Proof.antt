@@ -1,3 +1,4 @@
+-- `jump` of src/jumps.rt meets its contract.
 use Prim.Native.Nat.{_≤_}
 use native.Mathlib.Omega.{arith}
 use borrow.Author.Needs.{needs}

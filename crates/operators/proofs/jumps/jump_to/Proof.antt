@@ -1,3 +1,4 @@
+-- `jump_to` of src/jumps.rt meets its contract.
 use native.Mathlib.Omega.{arith}
 use borrow.Author.Needs.{needs}
 use lib.ListN.{length, getD}

@@ -1,3 +1,4 @@
+-- `close_gap` of src/operand_stack.rt meets its contract; Inv-loop is what holds at each turn of its loop.
 use Prim.Native.Nat.{_+_, _-_, _≤_}
 use mathlib.Core.Path.{_≡_, refl, sym, _∙_}
 use native.Mathlib.Omega.{arith}

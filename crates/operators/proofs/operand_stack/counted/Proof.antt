@@ -1,3 +1,4 @@
+-- `counted` of src/operand_stack.rt meets its contract.
 use native.Mathlib.Omega.{arith}
 use borrow.Author.Needs.{needs}
 use Rattle.operators.specs.Private.{unaryOf}

@@ -1,3 +1,4 @@
+-- `stack` of src/operand_stack.rt meets its contract.
 use Prim.Native.Nat.{_≤_}
 use native.Mathlib.Omega.{arith}
 use borrow.Author.Needs.{needs}

@@ -1,3 +1,4 @@
+-- `moved` of src/two_operands.rt meets its contract.
 use native.Mathlib.Omega.{arith}
 use borrow.Author.Needs.{needs}
 use Rattle.operators.specs.Private.{binaryOf}

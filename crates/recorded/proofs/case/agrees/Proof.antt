@@ -1,3 +1,4 @@
+-- `agrees` of src/case.rt meets its contract.
 use Prim.Native.Nat.{_*_}
 use native.Mathlib.Omega.{arith}
 use borrow.Author.Needs.{needs}

@@ -1,3 +1,4 @@
+-- `compare` of src/case.rt meets its contract.
 use borrow.Author.Tests.{not-false}
 use borrow.Author.Needs.{needs}
 use Rattle.recorded.proofs.case.compare.Statement.{statement}

@@ -1,3 +1,4 @@
+-- `fit` of src/case.rt meets its contract.
 use Rattle.recorded.proofs.Fits.{fits}
 use Rattle.recorded.proofs.case.fit.Statement.{statement}
 use Rattle.recorded.proofs.case.fit.Tie as tie

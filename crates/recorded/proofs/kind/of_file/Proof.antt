@@ -1,3 +1,4 @@
+-- `of_file` of src/kind.rt meets its contract.
 use native.Mathlib.Omega.{arith}
 use borrow.Author.Needs.{needs}
 use lib.ListN.{length-take}

@@ -1,3 +1,4 @@
+-- `byte` of src/numbers.rt meets its contract.
 use native.Mathlib.Omega.{arith}
 use borrow.Author.Needs.{needs}
 use Rattle.recorded.proofs.numbers.byte.Statement.{statement}

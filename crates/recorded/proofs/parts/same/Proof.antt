@@ -1,3 +1,4 @@
+-- `same` of src/parts.rt meets its contract; Inv-loop is what holds at each turn of its loop.
 use Prim.Native.Nat.{ℕ, _-_, _≤_, _<_}
 use mathlib.Core.List.{List}
 use mathlib.Core.Path.{_≡_, ap}

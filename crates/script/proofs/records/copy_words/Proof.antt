@@ -1,3 +1,4 @@
+-- `copy_words` of src/records.rt meets its contract; Inv-loop is what holds at each turn of its loop.
 use Prim.Native.Nat.{_-_}
 use mathlib.Core.Path.{refl}
 use native.Mathlib.Omega.{arith}

@@ -1,3 +1,4 @@
+-- `pass` of src/records.rt meets its contract; Inv-loop is what holds at each turn of its loop.
 use Prim.Native.Nat.{ℕ, _-_}
 use mathlib.Core.List.{List}
 use mathlib.Core.Path.{sym, _∙_}

@@ -1,3 +1,4 @@
+-- `compile` of src/script.rt meets its contract.
 use borrow.Author.Needs.{needs}
 use Rattle.script.proofs.Compiling.{too-long}
 use Rattle.script.proofs.script.compile.Statement.{statement}

@@ -1,3 +1,4 @@
+-- `is_surely_accepted` of src/script.rt meets its contract.
 use mathlib.Core.Path.{sym, _∙_}
 use borrow.Author.Needs.{needs}
 use borrow.Author.Tests.{ltb-false}

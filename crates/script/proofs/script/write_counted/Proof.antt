@@ -1,3 +1,4 @@
+-- `write_counted` of src/script.rt meets its contract.
 use Prim.Native.Nat.{ℕ, _*_, _≤_}
 use mathlib.Core.List.{List}
 use mathlib.Core.Path.{_≡_, sym}

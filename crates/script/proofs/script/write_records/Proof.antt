@@ -1,3 +1,4 @@
+-- `write_records` of src/script.rt meets its contract.
 use borrow.Author.Needs.{needs}
 use Rattle.script.proofs.Compiling.{never-ill-formed, written}
 use Rattle.script.proofs.script.write_records.Statement.{statement}

@@ -1,3 +1,4 @@
+-- `map_operator_to_source` of src/sources.rt meets its contract.
 use Prim.Native.Nat.{ℕ}
 use mathlib.Core.List.{List, [], _∷_}
 use mathlib.Core.Logic.{⊎-elim}

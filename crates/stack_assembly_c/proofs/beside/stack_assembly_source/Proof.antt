@@ -1,3 +1,4 @@
+-- `stack_assembly_source` of src/beside.rt meets its contract.
 use borrow.Author.Needs.{needs}
 use Rattle.stack_assembly_c.proofs.beside.stack_assembly_source.Statement.{statement}
 use Rattle.stack_assembly_c.proofs.beside.stack_assembly_source.Tie as tie

@@ -1,3 +1,4 @@
+-- `stack_assembly_compile` of src/compile.rt meets its contract.
 use borrow.Author.Needs.{needs}
 use Rattle.stack_assembly_c.proofs.compile.stack_assembly_compile.Statement.{statement}
 use Rattle.stack_assembly_c.proofs.compile.stack_assembly_compile.Tie as tie

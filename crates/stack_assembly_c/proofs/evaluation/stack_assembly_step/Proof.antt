@@ -1,3 +1,4 @@
+-- `stack_assembly_step` of src/evaluation.rt meets its contract.
 use borrow.Author.Needs.{needs}
 use Rattle.stack_assembly_c.proofs.evaluation.stack_assembly_step.Statement.{statement}
 use Rattle.stack_assembly_c.proofs.evaluation.stack_assembly_step.Tie as tie

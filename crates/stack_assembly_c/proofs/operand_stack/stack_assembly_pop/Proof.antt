@@ -1,3 +1,4 @@
+-- `stack_assembly_pop` of src/operand_stack.rt meets its contract.
 use borrow.Author.Needs.{needs}
 use Rattle.stack_assembly_c.proofs.operand_stack.stack_assembly_pop.Statement.{statement}
 use Rattle.stack_assembly_c.proofs.operand_stack.stack_assembly_pop.Tie as tie

@@ -1,3 +1,4 @@
+-- `stack_assembly_push` of src/operand_stack.rt meets its contract.
 use borrow.Author.Needs.{needs}
 use Rattle.stack_assembly_c.proofs.operand_stack.stack_assembly_push.Statement.{statement}
 use Rattle.stack_assembly_c.proofs.operand_stack.stack_assembly_push.Tie as tie

@@ -1,3 +1,4 @@
+-- The steps from the start of a run give its answer; 25 where a depth is over its capacity.
 use mathlib.Core.Path.{refl}
 use Rattle.steps.specs.Runs.{Runs}
 use Rattle.steps.proofs.Stretches.{unfit, fit, ran-made}

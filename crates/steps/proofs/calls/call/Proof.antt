@@ -1,3 +1,4 @@
+-- `call` of src/calls.rt meets its contract.
 use mathlib.Core.Path.{sym}
 use lib.Seq.{length-take-le}
 use Rattle.steps.proofs.Comes.{call-full, call-comes}

@@ -1,3 +1,4 @@
+-- `calls` of src/calls.rt meets its contract.
 use mathlib.Core.Path.{_≡_}
 use native.Mathlib.Omega.{arith}
 use Rattle.steps.proofs.Comes.{calls-return}

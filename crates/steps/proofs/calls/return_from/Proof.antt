@@ -1,3 +1,4 @@
+-- `return_from` of src/calls.rt meets its contract.
 use native.Mathlib.Omega.{arith}
 use Rattle.steps.proofs.Comes.{return-none, return-comes}
 use borrow.Author.Needs.{needs}

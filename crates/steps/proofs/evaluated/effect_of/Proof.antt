@@ -1,3 +1,4 @@
+-- `effect_of` of src/evaluated.rt meets its contract.
 use borrow.Author.Tests.{ne-eqb}
 use Rattle.steps.proofs.evaluated.effect_of.Statement.{statement}
 use Rattle.steps.proofs.evaluated.effect_of.Tie as tie

@@ -1,3 +1,4 @@
+-- `ends` of src/evaluated.rt meets its contract.
 use mathlib.Core.Path.{sym}
 use native.Mathlib.Omega.{arith}
 use lib.Seq.{length-take-le}

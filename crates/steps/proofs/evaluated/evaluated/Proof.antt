@@ -1,3 +1,4 @@
+-- Each group of codes is one function, whose outcome is the definition's for the words of the group.
 use Prim.Native.Nat.{_-_}
 use mathlib.Core.Path.{refl}
 use native.Mathlib.Omega.{arith}

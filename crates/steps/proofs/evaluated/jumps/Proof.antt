@@ -1,3 +1,4 @@
+-- `jumps` of src/evaluated.rt meets its contract.
 use mathlib.Core.Path.{sym}
 use lib.Seq.{length-take-le}
 use Rattle.steps.proofs.Groups.{jump-word}

@@ -1,3 +1,4 @@
+-- `on_stack` of src/evaluated.rt meets its contract.
 use mathlib.Core.Path.{sym}
 use lib.Seq.{length-take-le, length-front}
 use Rattle.steps.proofs.Groups.{binary-word, stack-word}

@@ -1,3 +1,4 @@
+-- `push` of src/evaluated.rt meets its contract.
 use Rattle.steps.proofs.Comes.{push-full, push-comes, small-rest}
 use borrow.Author.Needs.{needs}
 use Rattle.steps.proofs.evaluated.push.Statement.{statement}

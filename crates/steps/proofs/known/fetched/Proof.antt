@@ -1,3 +1,4 @@
+-- What is recalled was found before; what is found now is remembered, and all that is known stays true.
 use Rattle.fetch.specs.Codes.{lent}
 use Rattle.steps.proofs.Remembering.{recalled, knows-more, finds}
 use borrow.Author.Needs.{needs}

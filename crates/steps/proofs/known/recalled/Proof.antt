@@ -1,3 +1,4 @@
+-- `recalled` of src/known.rt meets its contract.
 use mathlib.Core.Path.{sym}
 use lib.ListN.{List·getD-eq-default}
 use borrow.Author.Needs.{needs}

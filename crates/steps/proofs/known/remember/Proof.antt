@@ -1,3 +1,4 @@
+-- Only the word of the place is written, and only where it fits.
 use mathlib.Core.Logic.{inl, inr}
 use mathlib.Core.Path.{refl}
 use borrow.Author.Needs.{needs}

@@ -1,3 +1,4 @@
+-- `leaving` of src/outcome.rt meets its contract.
 use Rattle.steps.proofs.outcome.leaving.Statement.{statement}
 use Rattle.steps.proofs.outcome.leaving.Tie as tie
 

@@ -1,3 +1,4 @@
+-- Each turn is one step of the definition: Inv-loop says that what is left of the budget, from here, is what is left of the run.
 use Prim.Native.Nat.{ℕ, _+_, _-_, _≤_}
 use mathlib.Core.Path.{_≡_, refl, _∙_}
 use native.Mathlib.Omega.{arith}

@@ -1,3 +1,4 @@
+-- `value_of` of src/steps.rt meets its contract.
 use native.Mathlib.Omega.{arith}
 use borrow.Author.Tests.{lt-ltb, le-ltb}
 use Rattle.steps.proofs.steps.value_of.Statement.{statement}

@@ -1,3 +1,4 @@
+-- `operands` of src/printed.rt meets its contract; Inv-loop is what holds at each turn of its loop.
 use Prim.Native.Nat.{_-_, _≤_}
 use lib.ListN.{length}
 use borrow.Author.Needs.{needs}

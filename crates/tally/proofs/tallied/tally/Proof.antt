@@ -1,3 +1,4 @@
+-- `tally` of src/tallied.rt meets its contract.
 use mathlib.Core.Path.{sym, ap}
 use native.Mathlib.Omega.{arith}
 use Rattle.stack_assembly.specs.Script.{Compilation}

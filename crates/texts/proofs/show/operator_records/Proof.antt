@@ -1,3 +1,4 @@
+-- `operator_records` of src/show.rt meets its contract; Inv-loop is what holds at each turn of its loop.
 use Prim.Native.Nat.{_-_, _≤_}
 use borrow.Author.Needs.{needs}
 use Rattle.texts.proofs.show.operator_records.Statement.{statement}

@@ -1,3 +1,4 @@
+-- `blank_end` of src/tokens.rt meets its contract; Inv-loop is what holds at each turn of its loop.
 use Prim.Native.Nat.{_-_}
 use mathlib.Core.Path.{refl, sym, _∙_}
 use native.Mathlib.Omega.{arith}

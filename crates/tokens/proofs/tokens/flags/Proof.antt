@@ -1,3 +1,4 @@
+-- `flags` of src/tokens.rt meets its contract.
 use borrow.Author.Needs.{needs}
 use Rattle.tokens.proofs.Flagged.{flags-eight}
 use Rattle.tokens.proofs.tokens.flags.Statement.{statement}

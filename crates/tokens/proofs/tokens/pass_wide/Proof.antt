@@ -1,3 +1,4 @@
+-- `pass_wide` of src/tokens.rt meets its contract.
 use mathlib.Core.Path.{sym, _∙_}
 use borrow.Author.Needs.{needs}
 use Rattle.tokens.proofs.Spans.{none-passed, other-passes, white-passes, white-stops}

@@ -1,3 +1,4 @@
+-- `plain_end` of src/tokens.rt meets its contract; Inv-loop is what holds at each turn of its loop.
 use Prim.Native.Nat.{ℕ, _-_}
 use native.Mathlib.Omega.{arith}
 use borrow.Author.Needs.{needs}

@@ -1,3 +1,4 @@
+-- `span` of src/tokens.rt meets its contract; Inv-loop is what holds at each turn of its loop.
 use Prim.Native.Nat.{_≤_, _-_}
 use mathlib.Core.Logic.{⊎-elim}
 use mathlib.Core.Path.{refl, sym, _∙_}

@@ -1,3 +1,4 @@
+-- `stops_at` of src/tokens.rt meets its contract.
 use borrow.Author.Needs.{needs}
 use Rattle.tokens.specs.Private.{stops}
 use Rattle.tokens.proofs.tokens.stops_at.Statement.{statement}

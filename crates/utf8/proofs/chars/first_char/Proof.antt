@@ -1,3 +1,4 @@
+-- `first_char` of src/chars.rt meets its contract.
 use mathlib.Core.Path.{_∙_}
 use native.Mathlib.Omega.{arith}
 use borrow.Author.Needs.{needs}

@@ -1,3 +1,4 @@
+-- `four` of src/chars.rt meets its contract.
 use mathlib.Core.Bool.{false, _&&_}
 use mathlib.Core.Path.{_≡_}
 use borrow.Author.Needs.{needs}

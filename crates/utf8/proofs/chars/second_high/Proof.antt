@@ -1,3 +1,4 @@
+-- `second_high` of src/chars.rt meets its contract.
 use borrow.Author.Tests.{eq-eqb, ne-eqb}
 use Rattle.utf8.specs.Private.{highAfter}
 use Rattle.utf8.proofs.chars.second_high.Statement.{statement}

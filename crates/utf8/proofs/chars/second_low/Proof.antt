@@ -1,3 +1,4 @@
+-- `second_low` of src/chars.rt meets its contract.
 use borrow.Author.Tests.{eq-eqb, ne-eqb}
 use Rattle.utf8.specs.Private.{lowAfter}
 use Rattle.utf8.proofs.chars.second_low.Statement.{statement}

@@ -1,3 +1,4 @@
+-- `three` of src/chars.rt meets its contract.
 use mathlib.Core.Bool.{true, false, _&&_}
 use mathlib.Core.Path.{_≡_, _∙_}
 use borrow.Author.Needs.{needs}

@@ -1,3 +1,4 @@
+-- `is_ascii` of src/texts.rt meets its contract; Inv-loop is what holds at each turn of its loop.
 use Prim.Native.Nat.{_-_}
 use mathlib.Core.Path.{refl}
 use native.Mathlib.Omega.{arith}

@@ -1,3 +1,4 @@
+-- `is_white_space` of src/white_space.rt meets its contract.
 use borrow.Author.Needs.{needs}
 use Rattle.utf8.specs.WhiteSpace.{white}
 use Rattle.utf8.proofs.white_space.is_white_space.Statement.{statement}

@@ -1,3 +1,4 @@
+-- `wrapping_mul` of src/arithmetic.rt meets its contract.
 use borrow.Author.Needs.{needs}
 use Rattle.word.specs.Word.{wrappingMul}
 use Rattle.word.proofs.Digits.{product-below}

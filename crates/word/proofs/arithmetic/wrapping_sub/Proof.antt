@@ -1,3 +1,4 @@
+-- `wrapping_sub` of src/arithmetic.rt meets its contract.
 use borrow.Author.Needs.{needs}
 use Rattle.word.specs.Word.{wrappingSub}
 use Rattle.word.proofs.arithmetic.wrapping_sub.Statement.{statement}

@@ -1,3 +1,4 @@
+-- `count_ones` of src/bits.rt meets its contract.
 use Rattle.word.proofs.Digits.{ones-within}
 use Rattle.word.proofs.bits.count_ones.Statement.{statement}
 use Rattle.word.proofs.bits.count_ones.Tie as tie

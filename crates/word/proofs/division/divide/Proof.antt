@@ -1,3 +1,4 @@
+-- `divide` of src/division.rt meets its contract.
 use mathlib.Core.Logic.{⊎-elim}
 use borrow.Author.Needs.{needs}
 use borrow.Author.Tests.{eq-eqb, ne-eqb}

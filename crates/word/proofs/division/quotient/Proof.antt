@@ -1,3 +1,4 @@
+-- `quotient` of src/division.rt meets its contract.
 use borrow.Author.Needs.{needs}
 use Rattle.word.specs.Word.{quotient}
 use Rattle.word.proofs.Signs.{reading, size-positive, quotient-by-sizes}

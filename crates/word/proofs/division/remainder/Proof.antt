@@ -1,3 +1,4 @@
+-- `remainder` of src/division.rt meets its contract.
 use borrow.Author.Needs.{needs}
 use Rattle.word.specs.Word.{remainder}
 use Rattle.word.proofs.Signs.{reading, size-positive, remainder-by-sizes}

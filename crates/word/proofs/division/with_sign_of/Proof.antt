@@ -1,3 +1,4 @@
+-- `with_sign_of` of src/division.rt meets its contract.
 use Prim.Native.Nat.{_^_}
 use borrow.Author.Needs.{needs}
 use borrow.Author.Tests.{lt-ltb, le-ltb}

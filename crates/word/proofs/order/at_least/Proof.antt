@@ -1,3 +1,4 @@
+-- `at_least` of src/order.rt meets its contract.
 use borrow.Author.Needs.{needs}
 use Rattle.word.specs.Word.{atMost, atLeast}
 use Rattle.word.proofs.order.at_least.Statement.{statement}

@@ -1,3 +1,4 @@
+-- `at_most` of src/order.rt meets its contract.
 use borrow.Author.Needs.{needs}
 use Rattle.word.specs.Word.{signed, atMost}
 use Rattle.word.proofs.Signs.{opposite-order}

@@ -1,3 +1,4 @@
+-- `below` of src/order.rt meets its contract.
 use borrow.Author.Needs.{needs}
 use Rattle.word.proofs.Signs.{reading, order}
 use Rattle.word.proofs.order.below.Statement.{statement}

@@ -1,3 +1,4 @@
+-- `equal` of src/order.rt meets its contract.
 use borrow.Author.Needs.{needs}
 use Rattle.word.specs.Word.{equal}
 use Rattle.word.proofs.order.equal.Statement.{statement}

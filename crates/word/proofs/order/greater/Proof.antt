@@ -1,3 +1,4 @@
+-- `greater` of src/order.rt meets its contract.
 use borrow.Author.Needs.{needs}
 use Rattle.word.specs.Word.{less, greater}
 use Rattle.word.proofs.order.greater.Statement.{statement}

@@ -1,3 +1,4 @@
+-- `less` of src/order.rt meets its contract.
 use borrow.Author.Needs.{needs}
 use Rattle.word.specs.Word.{less}
 use Rattle.word.proofs.order.less.Statement.{statement}

@@ -1,3 +1,4 @@
+-- `rotate_left` of src/shifts.rt meets its contract.
 use Prim.Native.Nat.{_+_, _-_, _%_}
 use mathlib.Core.Path.{_≡_}
 use native.Mathlib.Omega.{arith}

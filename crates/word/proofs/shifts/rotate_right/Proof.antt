@@ -1,3 +1,4 @@
+-- `rotate_right` of src/shifts.rt meets its contract.
 use borrow.Author.Needs.{needs}
 use Rattle.word.proofs.Digits.{right-as-left}
 use Rattle.word.proofs.shifts.rotate_right.Statement.{statement}

@@ -1,3 +1,4 @@
+-- `shift_right` of src/shifts.rt meets its contract.
 use Prim.Native.Nat.{suc, _-_, _%_, _^_}
 use mathlib.Core.Path.{_≡_}
 use native.Mathlib.Omega.{arith}

@@ -1,3 +1,4 @@
+-- A name is its two numbers, so what the trees find for them is what the definition finds for the name.
 use Prim.Native.Nat.{ℕ}
 use native.Mathlib.Omega.{arith}
 use borrow.Author.Needs.{needs}

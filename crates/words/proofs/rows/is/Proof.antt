@@ -1,3 +1,4 @@
+-- A row is compared as two numbers of eight bytes.
 use mathlib.Core.Bool.{cond, _&&_}
 use mathlib.Core.Path.{_≡_}
 use lib.Dec.{eqb}

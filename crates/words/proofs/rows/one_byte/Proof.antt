@@ -1,3 +1,4 @@
+-- The tests on the way to each row are those of its tree, and the row at the end is the leaf's.
 use borrow.Author.Tests.{lt-ltb, le-ltb}
 use Rattle.names.specs.Names.{sameBytes}
 use Rattle.names.specs.Packed.{packed, firstEight}

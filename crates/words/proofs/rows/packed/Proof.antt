@@ -1,3 +1,4 @@
+-- A shift to the top and back leaves the first n bytes.
 use Prim.Native.Nat.{ℕ}
 use Rattle.names.proofs.Same.{shifted-back}
 use borrow.Author.Needs.{needs}

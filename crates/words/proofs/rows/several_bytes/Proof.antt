@@ -1,3 +1,4 @@
+-- Two tests choose among three trees, as in the tree that holds them.
 use borrow.Author.Tests.{lt-ltb, le-ltb}
 use borrow.Author.Needs.{needs}
 use Rattle.words.specs.Private.{walk, severalBytes}

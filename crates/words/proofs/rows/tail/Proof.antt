@@ -1,3 +1,4 @@
+-- Behind the first eight bytes there are at most seven, so the length has the top byte to itself.
 use Prim.Native.Nat.{ℕ}
 use native.Mathlib.Omega.{arith}
 use lib.ListN.{take}

@@ -1,3 +1,4 @@
+-- As `one_byte`: the tests on the way to each row are those of its tree.
 use borrow.Author.Tests.{lt-ltb, le-ltb}
 use Rattle.names.specs.Names.{sameBytes}
 use Rattle.names.specs.Packed.{packed, firstEight}
