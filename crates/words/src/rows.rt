@@ -170,12 +170,12 @@ pub fn find(text: &[u8], length: usize) -> usize
     ensures { λ r. ⌜ r ≡ placeOf (lookup (take length (now (text .entry))) words) ⌝ }
 {
     let n = shorter(length, text.len());
-    if (n < 1) | (15 < n) {
-        return 30;
-    }
     // The length is known here, and not compared.
     if n == 1 {
         return one_byte(packed(text, 1), 0x100_0000_0000_0000);
+    }
+    if (n < 1) | (15 < n) {
+        return 30;
     }
     several_bytes(packed(text, shorter(n, 8)), tail(text, n))
 }
