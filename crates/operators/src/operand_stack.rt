@@ -21,12 +21,12 @@ fn counted(place: usize, a: u32) -> u32
     ensures { λ r. ⌜ r ≡ unaryOf place a ⌝ }
 {
     if place == 0 {
-        return word::count_ones(a);
+        return bits::count_ones(a);
     }
     if place == 1 {
-        return word::leading_zeros(a);
+        return bits::leading_zeros(a);
     }
-    word::trailing_zeros(a)
+    bits::trailing_zeros(a)
 }
 
 fn unary(place: usize, operands: &mut [u32]) -> Stack

@@ -28,17 +28,17 @@ fn compared(place: usize, a: u32, b: u32) -> u32
 {
     if place < 5 {
         if place == 3 {
-            return word::less(a, b);
+            return order::less(a, b);
         }
-        return word::at_most(a, b);
+        return order::at_most(a, b);
     }
     if place == 5 {
-        return word::equal(a, b);
+        return order::equal(a, b);
     }
     if place == 6 {
-        return word::greater(a, b);
+        return order::greater(a, b);
     }
-    word::at_least(a, b)
+    order::at_least(a, b)
 }
 
 fn bit_by_bit(place: usize, a: u32, b: u32) -> u32
@@ -46,12 +46,12 @@ fn bit_by_bit(place: usize, a: u32, b: u32) -> u32
     ensures { λ r. ⌜ r ≡ binaryOf place a b ⌝ }
 {
     if place == 8 {
-        return word::bitwise_and(a, b);
+        return bits::bitwise_and(a, b);
     }
     if place == 9 {
-        return word::bitwise_or(a, b);
+        return bits::bitwise_or(a, b);
     }
-    word::bitwise_xor(a, b)
+    bits::bitwise_xor(a, b)
 }
 
 fn moved(place: usize, a: u32, b: u32) -> u32
@@ -59,15 +59,15 @@ fn moved(place: usize, a: u32, b: u32) -> u32
     ensures { λ r. ⌜ r ≡ binaryOf place a b ⌝ }
 {
     if place == 11 {
-        return word::rotate_left(a, b);
+        return bits::rotate_left(a, b);
     }
     if place == 12 {
-        return word::rotate_right(a, b);
+        return bits::rotate_right(a, b);
     }
     if place == 13 {
-        return word::shift_left(a, b);
+        return bits::shift_left(a, b);
     }
-    word::shift_right(a, b)
+    bits::shift_right(a, b)
 }
 
 fn applied(place: usize, a: u32, b: u32) -> u32

@@ -1,19 +1,19 @@
--- The laws of signed words, of their order and of the signs of a quotient and a remainder: a word is n and reads as n, or is 2 ^ 32 - (n + 1) and reads as -(n + 1), with n below 2 ^ 31, and each law goes by these two readings.
+-- The laws of signed words, and of the signs of a quotient and a remainder: a word is n and reads as n, or is 2 ^ 32 - (n + 1) and reads as -(n + 1), with n below 2 ^ 31, and each law goes by these two readings.
 use Prim.Native.Nat.{ℕ, zero, suc, _-_, _/_, _%_, _^_, _≤_, _<_}
-use mathlib.Core.Bool.{Bool, true, false, not}
+use mathlib.Core.Bool.{Bool, true, false}
 use mathlib.Core.Path.{_≡_, refl, sym}
 use native.Mathlib.Nat.{div-le-self, mod-le}
 use native.Mathlib.Omega.{arith}
-use borrow.Author.Tests.{ltb-true, ltb-false, lt-ltb, le-ltb, le-leb, lt-leb}
-use lib.Dec.{ltb, leb}
+use borrow.Author.Tests.{ltb-true, ltb-false, lt-ltb, le-ltb}
+use lib.Dec.{ltb}
 use lib.IntN.{ℤ, pos, negsuc, negℤ, negℤ-negℤ, natAbs}
-use lib.Signed.{ltZ, leZ, quotZ, remZ}
+use lib.Signed.{quotZ, remZ}
 use mir.Syntax.{w32}
 use mir.Val.{Fits}
-use Rattle.word.specs.Word.{signed, unsigned, wrappingAdd, wrappingSub}
+use Rattle.word.specs.Word.{signed, unsigned, wrappingSub}
 use Rattle.word.specs.Answers.{withSignOf}
 
-by-test : (a b : ℕ) {X : Type 0} → (a < b → X) → (b ≤ a → X) → X
+pub by-test : (a b : ℕ) {X : Type 0} → (a < b → X) → (b ≤ a → X) → X
 by-test a b {X} f g = go (ltb a b) refl
   where
     go : (t : Bool) → ltb a b ≡ t → X
@@ -30,31 +30,6 @@ reading {a} h =
     (λ l.
     let e : 2 ^ 32 - suc (2 ^ 32 - suc a) ≡ a = omega arith in
     rw (le-ltb a (2 ^ 31) l) (rw e at (high {n = 2 ^ 32 - suc a} (omega arith))))
-
--- ---- the order
-
-same-test : (a b c d : ℕ) → (a < b → c < d) → (b ≤ a → d ≤ c) → ltb a b ≡ ltb c d
-same-test a b c d f g =
-    by-test a b (λ l. rw (lt-ltb a b l, lt-ltb c d (f l))) (λ l. rw (le-ltb a b l, le-ltb c d (g l)))
-
--- Words moved by half the range are in the order of their signed readings.
-pub order : {a b p q : ℕ} {x y : ℤ} → Reading a x → Reading b y → p ≡ wrappingAdd a (2 ^ 31) → q ≡ wrappingAdd b (2 ^ 31) → ltb p q ≡ ltZ x y
-order {a} {b} {p} {q} (low h) (low k) e f = same-test p q a b (λ l. omega arith) (λ l. omega arith)
-order {a} {b} {p} {q} (low h) (high k) e f = le-ltb p q (omega arith)
-order {a} {b} {p} {q} (high h) (low k) e f = lt-ltb p q (omega arith)
-order {a} {b} {p} {q} (high {n = m} h) (high {n = n} k) e f = same-test p q n m (λ l. omega arith) (λ l. omega arith)
-
-opposite : (a b : ℕ) → leb a b ≡ not (ltb b a)
-opposite a b =
-    by-test b a (λ l. rw (lt-leb a b l, lt-ltb b a l)) (λ l. rw (le-leb a b l, le-ltb b a l))
-
-pub opposite-order : (x y : ℤ) → leZ x y ≡ not (ltZ y x)
-opposite-order (pos a) (pos b) = opposite a b
-opposite-order (pos a) (negsuc b) = refl
-opposite-order (negsuc a) (pos b) = refl
-opposite-order (negsuc a) (negsuc b) = opposite b a
-
--- ---- the quotient and the remainder
 
 abbrev signedAs : ℤ → ℤ → ℤ
 signedAs (pos n) z = z
