@@ -1,7 +1,6 @@
 // The evaluation, for C: a fresh start, one step, steps up to a budget, and the standing effect taken away.
-use crate::out::put;
-use crate::out::script;
 use eval::Eval;
+use script::Script;
 ghost use Rattle.stack_assembly.specs.Run.{step-call, run-call, clear-call};
 ghost use Rattle.stack_assembly.specs.Promise.{Starts};
 ghost use Rattle.stack_assembly_c.specs.Boundary.{stateOf, tablesOf, stateIn, CalledFromC};
@@ -47,7 +46,10 @@ pub extern "C" fn stack_assembly_step(
             effect,
             effect_operator,
         },
-        script(operator_count, label_count),
+        Script {
+            operators: operator_count,
+            labels: label_count,
+        },
         text,
         operators,
         labels,
@@ -55,7 +57,17 @@ pub extern "C" fn stack_assembly_step(
         call_stack,
         memory,
     );
-    put(out, answered);
+    let after = answered.eval;
+    *out = [
+        answered.number as u64,
+        answered.value as u64,
+        answered.steps as u64,
+        after.next_operator as u64,
+        after.operand_depth as u64,
+        after.call_depth as u64,
+        after.effect as u64,
+        after.effect_operator as u64,
+    ];
 }
 
 #[no_mangle]
@@ -86,7 +98,10 @@ pub extern "C" fn stack_assembly_run(
             effect,
             effect_operator,
         },
-        script(operator_count, label_count),
+        Script {
+            operators: operator_count,
+            labels: label_count,
+        },
         text,
         operators,
         labels,
@@ -95,7 +110,17 @@ pub extern "C" fn stack_assembly_run(
         memory,
         budget,
     );
-    put(out, answered);
+    let after = answered.eval;
+    *out = [
+        answered.number as u64,
+        answered.value as u64,
+        answered.steps as u64,
+        after.next_operator as u64,
+        after.operand_depth as u64,
+        after.call_depth as u64,
+        after.effect as u64,
+        after.effect_operator as u64,
+    ];
 }
 
 #[no_mangle]
@@ -125,7 +150,10 @@ pub extern "C" fn stack_assembly_clear(
             effect,
             effect_operator,
         },
-        script(operator_count, label_count),
+        Script {
+            operators: operator_count,
+            labels: label_count,
+        },
         text,
         operators,
         labels,
@@ -133,5 +161,15 @@ pub extern "C" fn stack_assembly_clear(
         call_stack,
         memory,
     );
-    put(out, answered);
+    let after = answered.eval;
+    *out = [
+        answered.number as u64,
+        answered.value as u64,
+        answered.steps as u64,
+        after.next_operator as u64,
+        after.operand_depth as u64,
+        after.call_depth as u64,
+        after.effect as u64,
+        after.effect_operator as u64,
+    ];
 }

@@ -4,4 +4,3 @@ mod compile;
 mod evaluation;
 mod memory;
 mod operand_stack;
-mod out;

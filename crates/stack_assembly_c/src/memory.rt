@@ -1,7 +1,6 @@
 // The memory, for C: read and write.
-use crate::out::put;
-use crate::out::script;
 use eval::Eval;
+use script::Script;
 ghost use Rattle.stack_assembly.specs.Run.{read-call, write-call};
 ghost use Rattle.stack_assembly_c.specs.Boundary.{stateOf, tablesOf, CalledFromC};
 
@@ -33,7 +32,10 @@ pub extern "C" fn stack_assembly_read(
             effect,
             effect_operator,
         },
-        script(operator_count, label_count),
+        Script {
+            operators: operator_count,
+            labels: label_count,
+        },
         text,
         operators,
         labels,
@@ -42,7 +44,17 @@ pub extern "C" fn stack_assembly_read(
         memory,
         address,
     );
-    put(out, answered);
+    let after = answered.eval;
+    *out = [
+        answered.number as u64,
+        answered.value as u64,
+        answered.steps as u64,
+        after.next_operator as u64,
+        after.operand_depth as u64,
+        after.call_depth as u64,
+        after.effect as u64,
+        after.effect_operator as u64,
+    ];
 }
 
 #[no_mangle]
@@ -74,7 +86,10 @@ pub extern "C" fn stack_assembly_write(
             effect,
             effect_operator,
         },
-        script(operator_count, label_count),
+        Script {
+            operators: operator_count,
+            labels: label_count,
+        },
         text,
         operators,
         labels,
@@ -84,5 +99,15 @@ pub extern "C" fn stack_assembly_write(
         address,
         word,
     );
-    put(out, answered);
+    let after = answered.eval;
+    *out = [
+        answered.number as u64,
+        answered.value as u64,
+        answered.steps as u64,
+        after.next_operator as u64,
+        after.operand_depth as u64,
+        after.call_depth as u64,
+        after.effect as u64,
+        after.effect_operator as u64,
+    ];
 }
