@@ -1,19 +1,20 @@
 -- What is remembered of what was fetched.
 use Prim.Native.Nat.{ℕ, zero, suc, _+_, _*_, _/_, _%_, _^_, _<_}
-use mathlib.Core.Bool.{Bool, true, false}
-use mathlib.Core.List.{List}
+use mathlib.Core.Bool.{Bool, true, false, cond}
+use mathlib.Core.List.{List, [], _∷_}
 use mathlib.Core.Logic.{_⊎_, inl, inr}
 use mathlib.Core.Path.{_≡_, refl, sym, ap, _∙_, subst⁻¹}
 use native.Mathlib.Omega.{arith}
 use borrow.Author.Tests.{eqb-true, eqb-false, ltb-true, ltb-false}
 use lib.Dec.{eqb, ltb}
-use lib.ListN.{length, getD, set, replicate}
+use lib.ListN.{length, getD, set}
 use lib.Seq.{getD-set-same, getD-set-other, set-out}
+use Rattle.base.proofs.Tests.{absurd-bool}
 use Rattle.stack_assembly.specs.Script.{Script, Tables, scriptIn}
 use Rattle.stack_assembly.specs.Step.{fetched}
 use Rattle.fetch.proofs.Fetched.{fetched-is}
 use Rattle.fetch.specs.declared.codes.Code.{Code}
-use Rattle.steps.specs.Private.{Finds, decoded, Remembers, Knows}
+use Rattle.steps.specs.Private.{Finds, decoded, Remembers, isBlank, Knows}
 use Rattle.steps.proofs.Comes.{code-end}
 use Rattle.fetch.specs.Codes.{fetchedOf, codeOf, Small}
 
@@ -65,13 +66,18 @@ module _ {s : Script} {known : List ℕ} (k : Knows s known) where
   knows-more f (inr (h, e)) = subst⁻¹ (Knows s) e (remembered h f)
 
 -- nothing is known where nothing was remembered
-zeros-at : (n at : ℕ) → _≡_ {A = ℕ} (getD (replicate n 0) at 0) 0
-zeros-at zero at = refl
-zeros-at (suc n) zero = refl
-zeros-at (suc n) (suc at) = zeros-at n at
+zeros : (known : List ℕ) → isBlank known ≡ true → (at : ℕ) → _≡_ {A = ℕ} (getD known at 0) 0
+zeros [] e at = refl
+zeros (w ∷ known) e at = go (eqb w 0) refl e (zeros known) at
+  where
+    go : (t : Bool) → eqb w 0 ≡ t → cond t (isBlank known) false ≡ true → (isBlank known ≡ true → (at : ℕ) → _≡_ {A = ℕ} (getD known at 0) 0)
+        → (at : ℕ) → _≡_ {A = ℕ} (getD (w ∷ known) at 0) 0
+    go true z e rest zero = eqb-true w 0 z
+    go true z e rest (suc at) = rest e at
+    go false z e rest at = absurd-bool e
 
-pub knows-none : (s : Script) (n : ℕ) → Knows s (replicate n 0)
-knows-none s n = record { each = λ at. inl (zeros-at n at) }
+pub knows-none : (s : Script) {known : List ℕ} → isBlank known ≡ true → Knows s known
+knows-none s {known} e = record { each = λ at. inl (zeros known e at) }
 
 pub finds : (tables : Tables) (next : ℕ) {c : Code} → c ≡ codeOf (fetched (scriptIn tables) next) → Small c → Finds (scriptIn tables) next c
 finds tables next e h = record { fetched = fetched-is tables next e; small = h }

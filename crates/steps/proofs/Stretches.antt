@@ -17,38 +17,33 @@ use Rattle.steps.specs.declared.outcome.Store.{Store}
 use Rattle.steps.specs.declared.steps.Stretch.{Stretch}
 use Rattle.steps.specs.declared.budget.Ran.{Ran}
 use Rattle.steps.specs.Runs.{Fits, machineIn, RunMade}
-use Rattle.steps.specs.Private.{counted, Start, whole, Going, Ended, Goes, ranBy}
+use Rattle.steps.specs.Private.{counted, whole, Going, Ended, startOf, Goes, ranBy}
 use Rattle.steps.proofs.Comes.{kept-same}
 
 none-counted : (d : Done) → d ≡ counted 0 d
 none-counted d = ap (λ (k : ℕ). done (d .answer .number) (d .answer .value) k (d .machine)) (sym (zero-add (d .answer .steps)))
 
-going-start : (s : Script) (start : Start) → Fits (start .store) (start .operandStack) (start .callStack)
-    → Going s start (start .budget + 0) (start .store) (start .operandStack) (start .callStack) (start .memory)
-going-start s start f =
-    let e : start .budget + 0 ≡ start .budget = omega arith in
-    let z : start .budget - start .budget ≡ 0 = omega arith in
-    subst⁻¹ (λ (i : ℕ). Going s start i (start .store) (start .operandStack) (start .callStack) (start .memory)) e
-    (record {
-      same = rw z (none-counted (whole s start));
-      least = omega arith;
-      reaches = λ depth. omega arith;
-      operands = kept-same _ _ (start .operandStack) (f .operands);
-      calls = kept-same _ _ (start .callStack) (f .calls);
-    })
+module _ (s : Script) {budget : ℕ} {store : Store} {os cs ms : List ℕ} (f : Fits store os cs) where
+  pub going-start : (o : ℕ) → Going s (startOf budget store os cs ms o) budget store os cs ms
+  going-start o =
+      let z : budget - budget ≡ 0 = omega arith in
+      record {
+        same = rw z (none-counted (whole s (startOf budget store os cs ms o)));
+        least = omega arith;
+        reaches = λ depth. omega arith;
+        operands = kept-same _ _ os (f .operands);
+        calls = kept-same _ _ cs (f .calls);
+      }
 
 module _ {s : Script} {budget : ℕ} {store : Store} {os cs ms : List ℕ} {e : Stretch} {os′ cs′ ms′ : List ℕ}
-    (g : Goes s budget store os cs ms e os′ cs′ ms′) (f : Fits store os cs) where
-  abbrev from : (o : ℕ) → Start
-  from o = record { budget = budget; effectOperator = o; store = store; operandStack = os; callStack = cs; memory = ms }
-
+    (g : Goes s budget store os cs ms e os′ cs′ ms′) where
   pub ran-made : {r : Ran} → r ≡ ranBy e budget → (o : ℕ) → RunMade s budget store os cs ms r os′ cs′ ms′ o
   unfolding run
   ran-made {r} q o = subst⁻¹ (λ (x : Ran). RunMade s budget store os cs ms x os′ cs′ ms′ o) q (go (e .number) refl)
     where
       go : (n : ℕ) → e .number ≡ n → RunMade s budget store os cs ms (ranBy e budget) os′ cs′ ms′ o
       go zero z =
-          let end = g .spent z (from o) 0 (going-start s (from o) f) in
+          let end = g .spent z o in
           let k : budget - 0 + 0 ≡ budget = omega arith in
           rw z
           (record {
@@ -59,10 +54,9 @@ module _ {s : Script} {budget : ℕ} {store : Store} {os cs ms : List ℕ} {e : 
           })
       go (suc n) z =
           let some : e .number ≡ 0 → ⊥ = λ q. let y : suc n ≡ 0 = sym z ∙ q in omega arith in
-          let end = g .ended some (from o) 0 (going-start s (from o) f) in
-          let k : e .left + 0 ≡ e .left = omega arith in
+          let end = g .ended some o in
           rw (ne-eqb (e .number) 0 some)
-          (record { answer = rw k at (end .same); small = end .small; operands = end .operands; calls = end .calls })
+          (record { answer = end .same; small = end .small; operands = end .operands; calls = end .calls })
 
 -- ---- 25
 module _ {store : Store} {os cs : List ℕ} where

@@ -1,7 +1,7 @@
 -- What the private functions ask and promise; no public contract cites it.
 use Prim.Native.Nat.{ℕ, zero, suc, _+_, _-_, _≤_, _<_, max, _*_, _/_, _%_, _^_}
-use mathlib.Core.Bool.{cond}
-use mathlib.Core.List.{List}
+use mathlib.Core.Bool.{Bool, true, false, cond}
+use mathlib.Core.List.{List, [], _∷_}
 use mathlib.Core.Logic.{_⊎_}
 use mathlib.Core.Path.{_≡_}
 use lib.Dec.{ltb, eqb}
@@ -94,6 +94,11 @@ abbrev pub Remembers : Code → (next : ℕ) (before after : List ℕ) → Type 
 Remembers c next before after =
     (after ≡ before) ⊎ ((c .op < 33) × (after ≡ set before next (c .value % 2 ^ 32 * 64 + c .op)))
 
+-- Nothing is remembered.
+abbrev pub isBlank : (known : List ℕ) → Bool
+isBlank [] = true
+isBlank (w ∷ known) = cond (eqb w 0) (isBlank known) false
+
 -- Each word that is not 0 decodes to what is fetched at its place.
 pub record Knows (s : Script) (known : List ℕ) : Type 0 where
   pub each : (at : ℕ) → (getD known at 0 ≡ 0) ⊎ Finds s at (decoded (getD known at 0))
@@ -140,14 +145,17 @@ module _ (s : Script) (start : Start) where
     pub operands : Kept (deepest operandDepth) (r .store .«operand_depth») (start .operandStack) os
     pub calls : Kept (deepest callDepth) (r .store .«call_depth») (start .callStack) cs
 
--- Steps from any point of any run, whose budget may go `further`.
+-- A run from here, with this budget; the effect operator belongs to no effect.
+abbrev pub startOf : (budget : ℕ) → Store → (os cs ms : List ℕ) (effectOperator : ℕ) → Start
+startOf budget s os cs ms o =
+    record { budget = budget; effectOperator = o; store = s; operandStack = os; callStack = cs; memory = ms }
+
+-- The steps of a run: its budget is used, or a step ended it.
 pub record Goes (s : Script) (budget : ℕ) (store : Store) (os cs ms : List ℕ) (r : Stretch) (os′ cs′ ms′ : List ℕ) : Type 0 where
-  pub fits : Fits (r .store) os′ cs′
   pub least : r .left ≤ budget
   pub more : (r .number ≡ 0 → ⊥) → 0 < r .left
-  pub spent : r .number ≡ 0 → (start : Start) (further : ℕ) → Going s start (budget + further) store os cs ms → Going s start further (r .store) os′ cs′ ms′
-  pub ended : (r .number ≡ 0 → ⊥) → (start : Start) (further : ℕ) → Going s start (budget + further) store os cs ms
-      → Ended s start (record { store = r .store; number = r .number; value = r .value; left = r .left + further }) os′ cs′ ms′
+  pub spent : r .number ≡ 0 → (o : ℕ) → Going s (startOf budget store os cs ms o) 0 (r .store) os′ cs′ ms′
+  pub ended : (r .number ≡ 0 → ⊥) → (o : ℕ) → Ended s (startOf budget store os cs ms o) r os′ cs′ ms′
 
 -- An effect's value is its operator.
 abbrev pub valueOf : (number value next : ℕ) → ℕ

@@ -1,8 +1,9 @@
 // Steps until one ends the run, or the budget is used.
+ghost use mathlib.Core.Bool.{true};
 ghost use mathlib.Core.Path.{_≡_};
 ghost use Prim.Native.Nat.{_<_, _^_};
 ghost use Rattle.stack_assembly.specs.Script.{scriptIn};
-ghost use Rattle.steps.specs.Private.{Knows, Goes, valueOf};
+ghost use Rattle.steps.specs.Private.{isBlank, Goes, valueOf};
 ghost use Rattle.fetch.specs.Codes.{lent};
 ghost use Rattle.steps.specs.Runs.{Fits};
 use crate::evaluated::evaluated;
@@ -39,7 +40,7 @@ pub(crate) fn steps(
     memory: &mut [u32],
     budget: u32,
 ) -> Stretch
-    requires { ⌜ Fits store (now «operand_stack») (now «call_stack») × Knows (scriptIn (lent (now text) (now operators) (now labels))) (now known) ⌝ }
+    requires { ⌜ Fits store (now «operand_stack») (now «call_stack») × (isBlank (now known) ≡ true) ⌝ }
     ensures { λ r. ⌜ Goes (scriptIn (lent (now (text .entry)) (now (operators .entry)) (now (labels .entry)))) budget store (now («operand_stack» .entry)) (now («call_stack» .entry)) (now (memory .entry)) r (now («operand_stack» .exit)) (now («call_stack» .exit)) (now (memory .exit)) ⌝ }
 {
     let mut current = store;

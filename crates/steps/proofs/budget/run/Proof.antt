@@ -32,7 +32,7 @@ returns-2 : tie.Need-returns-2
 returns-2 c =
     let at-all-steps = c .before .before .before .before .before .before .before in
     let at-if1 = at-all-steps .before .before .before .before in
-    Runs.made (fit (at-if1 .if1 .left)) (ran-made (at-all-steps .all-steps .ensures) (fit (at-if1 .if1 .left)) (c .finished .ensures))
+    Runs.made (fit (at-if1 .if1 .left)) (ran-made (at-all-steps .all-steps .ensures) (c .finished .ensures))
 
 pub run-spec : {M : Type 1} → statement M
 run-spec =

@@ -1,12 +1,14 @@
 -- Each turn is one step of the definition: Inv-loop says that what is left of the budget, from here, is what is left of the run.
-use Prim.Native.Nat.{ℕ, _+_, _-_, _≤_}
+use Prim.Native.Nat.{ℕ, _-_, _≤_}
 use mathlib.Core.Path.{_≡_, refl, _∙_}
 use native.Mathlib.Omega.{arith}
 use lib.ListN.{length}
 use Rattle.stack_assembly.specs.Script.{scriptIn}
 use Rattle.fetch.specs.Codes.{lent}
 use Rattle.steps.specs.Runs.{Fits}
-use Rattle.steps.specs.Private.{Knows, Start, Going}
+use Rattle.steps.specs.Private.{Knows, startOf, Going}
+use Rattle.steps.proofs.Remembering.{knows-none}
+use Rattle.steps.proofs.Stretches.{going-start}
 use Rattle.steps.proofs.Running.{going-more, going-ends}
 use borrow.Author.Needs.{needs}
 use Rattle.steps.proofs.steps.steps.Statement.{statement}
@@ -17,8 +19,7 @@ Inv-loop known₀ text operators labels operand-stack₀ call-stack₀ memory₀
     (length known ≡ length known₀) × (length operand-stack ≡ length operand-stack₀) × (length call-stack ≡ length call-stack₀) × (length memory ≡ length memory₀)
     × Fits current operand-stack call-stack
     × Knows (scriptIn (lent text operators labels)) known
-    × ((start : Start) (further : ℕ) → Going (scriptIn (lent text operators labels)) start (left₀ + further) current₀ operand-stack₀ call-stack₀ memory₀
-    → Going (scriptIn (lent text operators labels)) start (left + further) current operand-stack call-stack memory)
+    × ((o : ℕ) → Going (scriptIn (lent text operators labels)) (startOf left₀ current₀ operand-stack₀ call-stack₀ memory₀ o) left current operand-stack call-stack memory)
     × (left ≤ left₀)
 
 abbrev μ-loop : tie.MeasureT-loop
@@ -28,7 +29,8 @@ abbrev μ-loop : tie.MeasureT-loop
 loop-holds : tie.Need-loop-holds Inv-loop μ-loop
 loop-holds c =
     let start = c .before .before .before .before .before .before .before in
-    (refl, refl, refl, refl, start .pre .0, start .pre .1, λ start further g. g, omega arith)
+    let s = scriptIn (lent (start .args .text .now) (start .args .operators .now) (start .args .labels .now)) in
+    (refl, refl, refl, refl, start .pre .0, knows-none s (start .pre .1), going-start s (start .pre .0), omega arith)
 
 fetched-requires : tie.Need-fetched-requires Inv-loop μ-loop
 fetched-requires c κs =
@@ -78,11 +80,10 @@ returns c =
     let at-fetched = at-evaluated .before .before .before .before .before .before .before in
     let at-loop = at-fetched .before .before .before in
     record {
-      fits = record { operands = at-evaluated .evaluated .ensures .operands .holds; calls = at-evaluated .evaluated .ensures .calls .holds };
       least = at-loop .loop .inv .7;
       more = λ _. omega arith;
       spent = λ z. absurd (c .before .if1 .taken z);
-      ended = λ z start further g. going-ends (at-loop .loop .inv .6 start further g) (at-fetched .fetched .ensures .0) (at-evaluated .evaluated .ensures) (at-loop .loop .left - 1 + further) (omega arith) z (c .value-of .ensures);
+      ended = λ z o. going-ends (at-loop .loop .inv .6 o) (at-fetched .fetched .ensures .0) (at-evaluated .evaluated .ensures) (at-loop .loop .left - 1) (omega arith) z (c .value-of .ensures);
     }
 
 sub-left : tie.Need-sub-left Inv-loop μ-loop
@@ -102,7 +103,7 @@ loop-again c =
       at-evaluated .evaluated .kept .1 .1 .1 .1 .1 .0 ∙ at-loop .loop .inv .3,
       record { operands = at-evaluated .evaluated .ensures .operands .holds; calls = at-evaluated .evaluated .ensures .calls .holds },
       at-fetched .fetched .ensures .1,
-      λ start further g. going-more (at-loop .loop .inv .6 start further g) (at-fetched .fetched .ensures .0) (at-evaluated .evaluated .ensures) (at-loop .loop .left - 1 + further) (omega arith) (c .if1 .left),
+      λ o. going-more (at-loop .loop .inv .6 o) (at-fetched .fetched .ensures .0) (at-evaluated .evaluated .ensures) (at-loop .loop .left - 1) (omega arith) (c .if1 .left),
       omega (arith, at-loop .loop .inv .7),
     )
 
@@ -121,10 +122,9 @@ same-length-8 c = c .before .loop .inv .3
 returns-2 : tie.Need-returns-2 Inv-loop μ-loop
 returns-2 c =
     record {
-      fits = c .before .loop .inv .4;
       least = omega arith;
       more = λ z. absurd (z refl);
-      spent = λ _ start further g. let z : c .before .loop .left + further ≡ further = omega arith in rw z at (c .before .loop .inv .6 start further g);
+      spent = λ _ o. let z : c .before .loop .left ≡ 0 = omega arith in rw z at (c .before .loop .inv .6 o);
       ended = λ z. absurd (z refl);
     }
 
