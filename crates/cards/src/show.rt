@@ -17,7 +17,7 @@ fn operator_records(script: Script, text: &[u8], operators: &[u32]) {
         let at = (i as usize) * 4;
         print::bytes(b"operator");
         range(operators[at + 1], operators[at + 2]);
-        print::quoted(script::map_operator_to_source(script, text, operators, i));
+        print::quoted(sources::map_operator_to_source(script, text, operators, i));
         i += 1;
     }
 }

@@ -1,14 +1,7 @@
 -- What the private functions ask and promise; no public contract cites it.
 use Prim.Native.Nat.{ℕ, _≤_}
-use mathlib.Core.Bool.{Bool, true}
-use mathlib.Core.Path.{_≡_}
 use Rattle.recorded.specs.declared.case.Sizes.{Sizes}
 use Rattle.recorded.specs.declared.kind.Tally.{Tally}
-
--- An answer is true exactly where something holds.
-pub record Tells (r : Bool) (Holds : Type 0) : Type 0 where
-  pub says : r ≡ true → Holds
-  pub found : Holds → r ≡ true
 
 -- A case's sizes are within what is lent.
 pub record Fit (s : Sizes) : Type 0 where

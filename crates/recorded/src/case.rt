@@ -8,8 +8,8 @@ use crate::calls;
 use crate::parts::after;
 use crate::parts::first;
 use crate::parts::number;
-use crate::parts::same;
 use eval::Eval;
+use lists::same;
 use script::Compiled;
 use script::Script;
 

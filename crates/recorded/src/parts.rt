@@ -1,7 +1,6 @@
 // Numbers of a list by their places, and parts of it; what lies past its end is 0, or missing.
 ghost use mathlib.Core.Path.{_≡_};
 ghost use lib.ListN.{getD, take, drop};
-ghost use Rattle.recorded.specs.Private.{Tells};
 
 pub(crate) fn number(list: &[u32], at: usize) -> u32
     ensures { λ r. ⌜ r ≡ getD (now (list .entry)) at 0 ⌝ }
@@ -28,20 +27,4 @@ pub(crate) fn after(list: &[u32], count: usize) -> &[u32]
         return &list[..0];
     }
     &list[count..]
-}
-
-pub(crate) fn same(a: &[u32], b: &[u32]) -> bool
-    ensures { λ r. ⌜ Tells r (now (a .entry) ≡ now (b .entry)) ⌝ }
-{
-    if a.len() != b.len() {
-        return false;
-    }
-    let mut i = 0;
-    while i < a.len() {
-        if a[i] != b[i] {
-            return false;
-        }
-        i += 1;
-    }
-    true
 }

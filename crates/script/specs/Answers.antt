@@ -1,14 +1,7 @@
--- What the answers of the code say, by the definitions.
-use Prim.Native.Nat.{ℕ, zero, suc, _+_, _*_}
-use mathlib.Core.List.{List}
-use lib.ListN.{getD}
-use Rattle.stack_assembly.specs.Answer.{Answer, answer}
+-- What the answer of compile says, by the definitions.
 use Rattle.stack_assembly.specs.Script.{CompileAnswer, accepted, rejected, longest}
-use Rattle.stack_assembly.specs.Beside.{source}
 use Rattle.script.specs.declared.script.Compiled.{Compiled}
 use Rattle.script.specs.declared.script.Compiled.the-variants.{TooLong, IllFormed, TooManyOperators, TooManyLabels, Accepted}
-use Rattle.script.specs.declared.sources.SourceRange.{SourceRange}
-use Rattle.script.specs.declared.sources.SourceRange.the-variants.{Forged, OutOfRange, Damaged, Range}
 
 -- 22, 21, 23, 24, or 0 with the counts.
 abbrev pub compiledAnswer : Compiled → CompileAnswer
@@ -17,34 +10,3 @@ compiledAnswer (IllFormed at) = rejected 21 at
 compiledAnswer (TooManyOperators n) = rejected 23 n
 compiledAnswer (TooManyLabels n) = rejected 24 n
 compiledAnswer (Accepted s) = accepted (s .operators) (s .labels)
-
--- Where an operator's source stands in the text, with the answer about it; 0 to 0 where there is none.
-pub record Located : Type 0 where
-  pub answer : Answer
-  pub start : ℕ
-  pub end : ℕ
-
-abbrev pub locatedAt : (number value start end : ℕ) → Located
-locatedAt n v s e = record { answer = answer n v 0; start = s; end = e }
-
--- 25, 31, 26, or 0 with the range.
-abbrev pub located : SourceRange → Located
-located Forged = locatedAt 25 0 0 0
-located (OutOfRange index) = locatedAt 31 index 0 0
-located (Damaged index) = locatedAt 26 index 0 0
-located (Range start end) = locatedAt 0 0 start end
-
--- A word of an operator's record, where the answer is 0.
-abbrev pub unlessRefused : (number word : ℕ) → ℕ
-unlessRefused zero word = word
-unlessRefused (suc number) word = 0
-
--- The range that the record at the index has, where it is answered.
-unfoldable pub sourceAt : (operatorCount : ℕ) (text operators : List ℕ) (index : ℕ) → Located
-sourceAt count text operators index =
-    let a : Answer = source count text operators index .answer in
-    record {
-      answer = a;
-      start = unlessRefused (a .number) (getD operators (index * 4 + 1) 0);
-      end = unlessRefused (a .number) (getD operators (index * 4 + 2) 0);
-    }

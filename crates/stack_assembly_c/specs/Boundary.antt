@@ -7,7 +7,7 @@ use Rattle.stack_assembly.specs.Script.{Tables, CompileAnswer}
 use Rattle.stack_assembly.specs.Run.{Call}
 use Rattle.stack_assembly.specs.Host.{State, Lent}
 use Rattle.stack_assembly.specs.Promise.{Called}
-use Rattle.script.specs.Answers.{Located}
+use Rattle.sources.specs.Answers.{Located}
 
 -- The state, of its five numbers.
 abbrev pub stateOf : (next operandDepth callDepth effect effectOperator : ℕ) → State

@@ -1,8 +1,8 @@
 // Beside the run, for C: where an operator stands in the text, and the call stack by place.
-use script::SourceRange;
+use sources::SourceRange;
 ghost use mathlib.Core.Path.{_≡_};
 ghost use Rattle.stack_assembly.specs.Beside.{callStackAt};
-ghost use Rattle.script.specs.Answers.{sourceAt};
+ghost use Rattle.sources.specs.Answers.{sourceAt};
 ghost use Rattle.stack_assembly_c.specs.Boundary.{answerIn, locatedIn};
 
 #[no_mangle]
@@ -15,7 +15,7 @@ pub extern "C" fn stack_assembly_source(
 )
     ensures { λ _. ⌜ locatedIn (now (out .exit)) ≡ sourceAt «operator_count» (now (text .entry)) (now (operators .entry)) index ⌝ }
 {
-    match script::source(operator_count, text, operators, index) {
+    match sources::source(operator_count, text, operators, index) {
         SourceRange::Forged => *out = [25, 0, 0, 0, 0],
         SourceRange::OutOfRange(i) => *out = [31, i as u64, 0, 0, 0],
         SourceRange::Damaged(i) => *out = [26, i as u64, 0, 0, 0],

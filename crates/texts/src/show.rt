@@ -11,7 +11,7 @@ fn operator_records(script: Script, text: &[u8], operators: &[u32]) {
         print::bytes(b"operator");
         print::words(&operators[at..at + 4]);
         print::bytes(b" ");
-        print::quoted(script::map_operator_to_source(script, text, operators, i));
+        print::quoted(sources::map_operator_to_source(script, text, operators, i));
         i += 1;
     }
 }

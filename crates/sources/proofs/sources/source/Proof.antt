@@ -2,9 +2,9 @@
 use Prim.Native.Nat.{_+_, _*_}
 use native.Mathlib.Omega.{arith}
 use borrow.Author.Needs.{needs}
-use Rattle.script.proofs.Ranges.{forged, absent, damaged-record, ranged}
-use Rattle.script.proofs.sources.source.Statement.{statement}
-use Rattle.script.proofs.sources.source.Tie as tie
+use Rattle.sources.proofs.Ranges.{forged, absent, damaged-record, ranged}
+use Rattle.sources.proofs.sources.source.Statement.{statement}
+use Rattle.sources.proofs.sources.source.Tie as tie
 
 returns : tie.Need-returns
 returns c = forged _ _ _ _ (c .if1 .taken)

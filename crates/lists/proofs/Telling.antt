@@ -2,7 +2,7 @@
 use mathlib.Core.Bool.{true, false}
 use mathlib.Core.Path.{refl}
 use Rattle.base.proofs.Tests.{absurd-bool}
-use Rattle.recorded.specs.Private.{Tells}
+use Rattle.lists.specs.Tells.{Tells}
 
 pub differ : {Holds : Type 0} → (Holds → ⊥) → Tells false Holds
 differ unequal = record { says = λ e. absurd-bool e; found = λ h. absurd (unequal h) }

@@ -1,8 +1,8 @@
 // The source of an operator: the part of the text that its record names.
-use crate::script::Script;
+use script::Script;
 ghost use mathlib.Core.Path.{_≡_};
 ghost use Rattle.stack_assembly.specs.Beside.{source};
-ghost use Rattle.script.specs.Answers.{located, sourceAt};
+ghost use Rattle.sources.specs.Answers.{located, sourceAt};
 
 pub enum SourceRange {
     Forged,

@@ -14,8 +14,8 @@ use Rattle.base.proofs.Tests.{neither}
 use Rattle.stack_assembly.specs.Answer.{answer}
 use Rattle.stack_assembly.specs.Script.{Operator, operator, operatorIn, recordsIn, part}
 use Rattle.stack_assembly.specs.Beside.{Source, noSource, sourceFrom, source}
-use Rattle.script.specs.declared.sources.SourceRange.{SourceRange}
-use Rattle.script.specs.Answers.{locatedAt, located, sourceAt}
+use Rattle.sources.specs.declared.sources.SourceRange.{SourceRange}
+use Rattle.sources.specs.Answers.{locatedAt, located, sourceAt}
 
 module _ {R : Type 0} (width : ℕ) (recordOf : List ℕ → R) where
   records-length : (count : ℕ) (table : List ℕ) → length (recordsIn width count table) ≡ count

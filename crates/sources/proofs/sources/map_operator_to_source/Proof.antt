@@ -8,13 +8,13 @@ use denote.Enum.Declared.{tagOf}
 use types.Run.{OneOf}
 use borrow.Author.Needs.{needs}
 use Rattle.stack_assembly.specs.Beside.{source}
-use Rattle.script.specs.declared.sources.SourceRange.{SourceRange}
-use Rattle.script.specs.declared.sources.SourceRange.the-variants.{Forged, OutOfRange, Damaged, Range}
-use Rattle.script.specs.Answers.{located}
-use Rattle.script.proofs.sources.SourceRange.{the-type}
-use Rattle.script.proofs.Ranges.{Stands, answer-stands, lent}
-use Rattle.script.proofs.sources.map_operator_to_source.Statement.{statement}
-use Rattle.script.proofs.sources.map_operator_to_source.Tie as tie
+use Rattle.sources.specs.declared.sources.SourceRange.{SourceRange}
+use Rattle.sources.specs.declared.sources.SourceRange.the-variants.{Forged, OutOfRange, Damaged, Range}
+use Rattle.sources.specs.Answers.{located}
+use Rattle.sources.proofs.sources.SourceRange.{the-type}
+use Rattle.sources.proofs.Ranges.{Stands, answer-stands, lent}
+use Rattle.sources.proofs.sources.map_operator_to_source.Statement.{statement}
+use Rattle.sources.proofs.sources.map_operator_to_source.Tie as tie
 
 source-requires : tie.Need-source-requires
 source-requires c κs = search needs

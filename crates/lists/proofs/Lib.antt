@@ -1,0 +1,2 @@
+-- Laws of a test that came out.
+pub mod Telling

@@ -1,0 +1,2 @@
+-- What the contract of the comparison cites.
+pub mod Tells
