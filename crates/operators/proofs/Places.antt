@@ -10,9 +10,9 @@ use Rattle.base.proofs.Tests.{all-at}
 use Rattle.stack_assembly.specs.Answer.{number}
 use Rattle.stack_assembly.specs.Words.{Word, shift-right}
 use Rattle.stack_assembly.specs.Machine.{Store, Room}
-use Rattle.stack_assembly.specs.Operators.{evaluated, unary, binary, calledEither}
+use Rattle.stack_assembly.specs.Operators.{evaluated, unary, binary}
 use Rattle.word.specs.Word.{countTrailingZeros, shiftRight}
-use Rattle.operators.specs.Outcomes.{effectAt, binaryWord, stackWord, enteredBy}
+use Rattle.operators.specs.Outcomes.{effectAt, binaryWord, stackWord}
 use Rattle.operators.specs.Private.{binaryOf, unaryOf}
 
 -- each effect stands at its number minus 1
@@ -59,7 +59,3 @@ binary-last place h = rw List·getD-eq-default
 pub unary-last : (place : ℕ) → 2 ≤ place → unaryOf place ≡ countTrailingZeros
 unfolding unaryOf
 unary-last place h = rw List·getD-eq-default
-
-pub entered-last : (place : ℕ) → 1 ≤ place → enteredBy place ≡ calledEither
-unfolding enteredBy
-entered-last place h = rw List·getD-eq-default

@@ -5,7 +5,7 @@ use mathlib.Core.Path.{_≡_, refl, _∙_}
 use native.Mathlib.Omega.{arith}
 use lib.ListN.{length, getD, set, length-set}
 use Rattle.stack_assembly.specs.Answer.{OperandStackUnderflow}
-use Rattle.stack_assembly.specs.Machine.{Store, Outcome, continues, raises, withNext, withOperands, withMemory, push, popFrom, pop}
+use Rattle.stack_assembly.specs.Machine.{Store, Outcome, continues, raises, withOperands, push, popFrom, pop}
 use Rattle.stack_assembly.specs.Host.{live}
 use Rattle.stack_assembly.proofs.Live.{live-length}
 use Rattle.operators.specs.Outcomes.{effectAt, outcomeOf, Leaves, Operands}
@@ -28,14 +28,6 @@ pop-two m d ws is k h =
     let e : d - 1 - 1 ≡ d - 2 = omega arith in
     pop-one m d ws is (λ b m₁. pop m₁ (k b)) (omega arith)
     ∙ (rw e at (pop-one (withOperands m (live (d - 1) ws)) (d - 1) ws refl (k (getD ws (d - 1) 0)) (omega arith)))
-
-pub pop-three : (m : Store) (d : ℕ) (ws : List ℕ) → m .operands ≡ live d ws → (k : ℕ → ℕ → ℕ → Store → Outcome) → 2 < d
-    → pop m (λ c m₁. pop m₁ (λ b m₂. pop m₂ (k c b)))
-    ≡ k (getD ws (d - 1) 0) (getD ws (d - 2) 0) (getD ws (d - 3) 0) (withOperands m (live (d - 3) ws))
-pop-three m d ws is k h =
-    let e : d - 2 - 1 ≡ d - 3 = omega arith in
-    pop-two m d ws is (λ c b m₂. pop m₂ (k c b)) (omega arith)
-    ∙ (rw e at (pop-one (withOperands m (live (d - 2) ws)) (d - 2) ws refl (k (getD ws (d - 1) 0) (getD ws (d - 2) 0)) (omega arith)))
 
 -- after the pops one word is pushed
 pub pushed : {o : Outcome} (m : Store) (ws : List ℕ) (d i v : ℕ) → o ≡ continues (push v (withOperands m (live i ws))) → i + 1 ≡ d → d ≤ length ws
@@ -62,12 +54,3 @@ pub underflow : (j : ℕ) (m : Store) (k : List ℕ → Store → Outcome) (ws :
     → Leaves (pops j m k) 7 0 (withOperands m (live 0 ws)) ws
 unfolding live outcomeOf effectAt
 underflow j m k ws is h = told (too-few j m k (live (length ws) ws) is (rw (live-length (length ws) ws) h)) (omega arith) (omega arith)
-
--- ---- what no pop changes
-
-module _ {o : Outcome} {e d : ℕ} (m : Store) {us ws : List ℕ} (l : Leaves o e d (withOperands m us) ws) where
-  pub next-kept : {next : ℕ} → m .next ≡ next → Leaves o e d (withNext (withOperands m us) next) ws
-  next-kept q = rw (← q) l
-
-  pub memory-kept : {memory : List ℕ} → m .memory ≡ memory → Leaves o e d (withMemory (withOperands m us) memory) ws
-  memory-kept q = rw (← q) l

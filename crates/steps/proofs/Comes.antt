@@ -20,8 +20,9 @@ use Rattle.steps.specs.declared.outcome.Store.{Store}
 use Rattle.steps.specs.declared.outcome.Outcome.{Outcome}
 use Rattle.fetch.specs.declared.codes.Code.{Code}
 use Rattle.operators.specs.declared.effect.Stack.{Stack}
-use Rattle.operators.specs.declared.effect.Jump.{Jump}
-use Rattle.operators.specs.Outcomes.{effectAt, outcomeOf, enteredBy, Leaves, OnOperands, OnMemory, OnNext}
+use Rattle.operators.specs.Outcomes.{effectAt, outcomeOf, Leaves, OnOperands}
+use Rattle.transfers.specs.declared.effect.Jump.{Jump}
+use Rattle.transfers.specs.Outcomes.{enteredBy, OnMemory, OnNext}
 use Rattle.words.specs.Places.{wordAt}
 use Rattle.operators.proofs.Places.{number-at}
 use Rattle.steps.proofs.Groups.{enters-by}

@@ -9,7 +9,8 @@ use Rattle.base.proofs.Tests.{all, all-at}
 use Rattle.stack_assembly.specs.Words.{Word, words}
 use Rattle.stack_assembly.specs.Machine.{Store, Room}
 use Rattle.stack_assembly.specs.Operators.{entered, evaluated}
-use Rattle.operators.specs.Outcomes.{binaryWord, stackWord, memoryWord, jumpWord, enteredBy}
+use Rattle.operators.specs.Outcomes.{binaryWord, stackWord}
+use Rattle.transfers.specs.Outcomes.{memoryWord, jumpWord, enteredBy}
 use Rattle.words.specs.Places.{place, wordAt}
 use Rattle.words.proofs.Words.{right}
 

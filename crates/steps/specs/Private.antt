@@ -21,7 +21,7 @@ use Rattle.steps.specs.declared.budget.Ran.{Ran}
 use Rattle.steps.specs.declared.steps.Stretch.{Stretch}
 use Rattle.fetch.specs.declared.codes.Code.{Code}
 use Rattle.operators.specs.declared.effect.Stack.{Stack}
-use Rattle.operators.specs.declared.effect.Jump.{Jump}
+use Rattle.transfers.specs.declared.effect.Jump.{Jump}
 use Rattle.steps.specs.Runs.{storeIn, room, Fits, machineIn, standing}
 use Rattle.fetch.specs.Codes.{fetchedOf, Small}
 

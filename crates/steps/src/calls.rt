@@ -11,7 +11,7 @@ use crate::outcome::Store;
 use crate::outcome::going_on;
 use crate::outcome::leaving;
 use operators::Stack;
-use operators::enter;
+use transfers::enter;
 
 fn call(
     place: usize,

@@ -17,8 +17,8 @@ use fetch::Code;
 use operators::Stack;
 use operators::assert;
 use operators::binary;
-use operators::jump;
 use operators::stack;
+use transfers::jump;
 
 fn push(value: usize, store: Store, after: u32, operand_stack: &mut [u32]) -> Outcome
     requires { ⌜ (store .«operand_depth» ≤ length (now «operand_stack»)) × (value < 2 ^ 32) × (after ≡ nextAfter store) ⌝ }
@@ -68,7 +68,7 @@ fn on_memory(
     leaving(
         store,
         after,
-        operators::memory(place - 21, &mut operand_stack[..depth], memory),
+        transfers::memory(place - 21, &mut operand_stack[..depth], memory),
     )
 }
 

@@ -1,8 +1,8 @@
 // What an operator comes to: the store after it, and 0, an effect's number, or a refusal's number and value.
 ghost use mathlib.Core.Path.{_≡_};
 ghost use Rattle.steps.specs.Private.{nextAfter, leaving, goingOn};
-use operators::Jump;
 use operators::Stack;
+use transfers::Jump;
 
 // The next operator's index, and the depths of both stacks.
 pub struct Store {

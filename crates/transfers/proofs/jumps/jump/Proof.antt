@@ -4,9 +4,9 @@ use native.Mathlib.Omega.{arith}
 use borrow.Author.Needs.{needs}
 use lib.ListN.{List·getD-eq-default}
 use Rattle.stack_assembly.specs.Operators.{evaluated, called}
-use Rattle.operators.specs.Outcomes.{jumpWord}
-use Rattle.operators.proofs.jumps.jump.Statement.{statement}
-use Rattle.operators.proofs.jumps.jump.Tie as tie
+use Rattle.transfers.specs.Outcomes.{jumpWord}
+use Rattle.transfers.proofs.jumps.jump.Statement.{statement}
+use Rattle.transfers.proofs.jumps.jump.Tie as tie
 
 jump-to-requires : tie.Need-jump-to-requires
 jump-to-requires c κs = search needs

@@ -2,10 +2,10 @@
 ghost use Rattle.stack_assembly.specs.Words.{jump, jump-if};
 ghost use Rattle.stack_assembly.specs.Machine.{Room};
 ghost use Rattle.stack_assembly.specs.Operators.{evaluated, called, calledEither};
-ghost use Rattle.operators.specs.Outcomes.{jumpWord, enteredBy, OnNext};
+ghost use Rattle.transfers.specs.Outcomes.{jumpWord, enteredBy, OnNext};
 use crate::effect::Jump;
-use crate::effect::NONE;
-use crate::effect::OPERAND_STACK_UNDERFLOW;
+use operators::NONE;
+use operators::OPERAND_STACK_UNDERFLOW;
 
 // `jump`, and `call` once next is pushed.
 fn jump_to(next: u32, operands: &[u32]) -> Jump

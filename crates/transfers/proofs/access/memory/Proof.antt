@@ -3,9 +3,9 @@ use Prim.Native.Nat.{_≤_}
 use native.Mathlib.Omega.{arith}
 use borrow.Author.Needs.{needs}
 use lib.ListN.{List·getD-eq-default}
-use Rattle.operators.specs.Outcomes.{memoryWord}
-use Rattle.operators.proofs.access.memory.Statement.{statement}
-use Rattle.operators.proofs.access.memory.Tie as tie
+use Rattle.transfers.specs.Outcomes.{memoryWord}
+use Rattle.transfers.proofs.access.memory.Statement.{statement}
+use Rattle.transfers.proofs.access.memory.Tie as tie
 
 read-requires : tie.Need-read-requires
 read-requires c κs = search needs

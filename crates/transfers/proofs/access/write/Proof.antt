@@ -6,10 +6,11 @@ use borrow.Author.Needs.{needs}
 use borrow.Author.Tests.{lt-ltb, le-ltb}
 use lib.ListN.{length, getD}
 use Rattle.stack_assembly.specs.Operators.{evaluated, writtenAt}
 use Rattle.operators.specs.Outcomes.{outcomeOf, effectAt}
-use Rattle.operators.proofs.Pops.{pop-two, underflow, told, memory-kept}
-use Rattle.operators.proofs.access.write.Statement.{statement}
-use Rattle.operators.proofs.access.write.Tie as tie
+use Rattle.operators.proofs.Pops.{pop-two, underflow, told}
+use Rattle.transfers.proofs.Pops.{memory-kept}
+use Rattle.transfers.proofs.access.write.Statement.{statement}
+use Rattle.transfers.proofs.access.write.Tie as tie
 
 returns : tie.Need-returns
 unfolding evaluated

@@ -2,11 +2,11 @@
 ghost use Rattle.stack_assembly.specs.Words.{read, write};
 ghost use Rattle.stack_assembly.specs.Machine.{Room};
 ghost use Rattle.stack_assembly.specs.Operators.{evaluated};
-ghost use Rattle.operators.specs.Outcomes.{memoryWord, OnMemory};
+ghost use Rattle.transfers.specs.Outcomes.{memoryWord, OnMemory};
 use crate::effect::INVALID_ADDRESS;
-use crate::effect::NONE;
-use crate::effect::OPERAND_STACK_UNDERFLOW;
-use crate::effect::Stack;
+use operators::NONE;
+use operators::OPERAND_STACK_UNDERFLOW;
+use operators::Stack;
 
 fn read(operands: &mut [u32], memory: &[u32]) -> Stack
     ensures { λ r. ⌜ ((room : Room) → OnMemory (evaluated room read) (now (operands .entry)) (now (operands .exit)) (now (memory .entry)) (now (memory .entry)) r) ⌝ }

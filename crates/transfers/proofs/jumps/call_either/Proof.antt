@@ -6,10 +6,11 @@ use borrow.Author.Needs.{needs}
 use lib.ListN.{length, getD}
 use Rattle.stack_assembly.specs.Machine.{withNext}
 use Rattle.stack_assembly.specs.Operators.{jumpedIf, calledEither}
 use Rattle.operators.specs.Outcomes.{outcomeOf}
-use Rattle.operators.proofs.Pops.{pop-three, underflow, told, next-kept}
-use Rattle.operators.proofs.jumps.call_either.Statement.{statement}
-use Rattle.operators.proofs.jumps.call_either.Tie as tie
+use Rattle.operators.proofs.Pops.{underflow, told}
+use Rattle.transfers.proofs.Pops.{pop-three, next-kept}
+use Rattle.transfers.proofs.jumps.call_either.Statement.{statement}
+use Rattle.transfers.proofs.jumps.call_either.Tie as tie
 
 returns : tie.Need-returns
 unfolding calledEither

@@ -1,10 +1,10 @@
 -- `enter` of src/jumps.rt meets its contract.
 use native.Mathlib.Omega.{arith}
 use borrow.Author.Needs.{needs}
-use Rattle.operators.specs.Outcomes.{enteredBy}
-use Rattle.operators.proofs.Places.{entered-last}
-use Rattle.operators.proofs.jumps.enter.Statement.{statement}
-use Rattle.operators.proofs.jumps.enter.Tie as tie
+use Rattle.transfers.specs.Outcomes.{enteredBy}
+use Rattle.transfers.proofs.Places.{entered-last}
+use Rattle.transfers.proofs.jumps.enter.Statement.{statement}
+use Rattle.transfers.proofs.jumps.enter.Tie as tie
 
 jump-to-requires : tie.Need-jump-to-requires
 jump-to-requires c κs = search needs

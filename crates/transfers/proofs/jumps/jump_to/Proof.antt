@@ -3,10 +3,11 @@ use native.Mathlib.Omega.{arith}
 use borrow.Author.Needs.{needs}
 use lib.ListN.{length, getD}
 use Rattle.stack_assembly.specs.Operators.{jumped, called}
 use Rattle.operators.specs.Outcomes.{outcomeOf}
-use Rattle.operators.proofs.Pops.{pop-one, underflow, told, next-kept}
-use Rattle.operators.proofs.jumps.jump_to.Statement.{statement}
-use Rattle.operators.proofs.jumps.jump_to.Tie as tie
+use Rattle.operators.proofs.Pops.{pop-one, underflow, told}
+use Rattle.transfers.proofs.Pops.{next-kept}
+use Rattle.transfers.proofs.jumps.jump_to.Statement.{statement}
+use Rattle.transfers.proofs.jumps.jump_to.Tie as tie
 
 returns : tie.Need-returns
 unfolding called
