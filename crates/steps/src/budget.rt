@@ -114,7 +114,7 @@ fn steps_of_many(
     requires { ⌜ Fits store (now «operand_stack») (now «call_stack») ⌝ }
     ensures { λ r. ⌜ Goes (scriptIn (lent (now (text .entry)) (now (operators .entry)) (now (labels .entry)))) budget store (now («operand_stack» .entry)) (now («call_stack» .entry)) (now (memory .entry)) r (now («operand_stack» .exit)) (now («call_stack» .exit)) (now (memory .exit)) ⌝ }
 {
-    let mut known = [0; 256];
+    let mut known = [0; 384];
     steps(
         &mut known,
         text,
