@@ -37,4 +37,6 @@ fn main() {
         first: 0,
     };
     kind::show(scripts(texts(none)));
+    // One case, once for each of its answers, with that answer changed: none agrees.
+    kind::played(b"altered", none);
 }

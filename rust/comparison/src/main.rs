@@ -121,5 +121,7 @@ fn recorded(folder: &str, seed: u64) -> bool {
 fn record_replayed(folder: &str, engine: &dyn Engine) -> bool {
     let (cases, agreeing) = record::replay(folder.as_ref(), engine).unwrap_or((0, 0));
     println!("{agreeing} of {cases} recorded cases agree");
-    cases > 0 && agreeing == cases
+    let (altered, unnoticed) = record::replay_altered(folder.as_ref(), engine).unwrap_or((0, 0));
+    println!("{unnoticed} of {altered} cases with a changed answer agree");
+    cases > 0 && agreeing == cases && altered > 0 && unnoticed == 0
 }

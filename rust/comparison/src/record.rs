@@ -45,6 +45,9 @@ const SHARES: [(&str, usize); 9] = [
 ];
 const LARGEST_FILE: usize = 131_072;
 
+/// The file of cases that must not agree: one case, once for each of its answers, with that answer changed.
+const ALTERED: &str = "altered";
+
 /// The file of a kind.
 fn file(folder: &Path, name: &str) -> PathBuf {
     folder.join(name.replace(' ', "_"))
@@ -62,8 +65,31 @@ pub fn write(folder: &Path, seed: u64) -> io::Result<usize> {
         let bytes: Vec<u8> = cases.concat().into_iter().flat_map(encoded).collect();
         assert!(bytes.len() <= LARGEST_FILE, "{name} are {} bytes", bytes.len());
         fs::write(file(folder, name), bytes)?;
+        if name == "lists of calls" {
+            let case = cases.iter().find(|case| has_all_parts(case)).expect("one has all parts");
+            let bytes: Vec<u8> = altered(case).into_iter().flatten().flat_map(encoded).collect();
+            fs::write(folder.join(ALTERED), bytes)?;
+        }
     }
     Ok(count)
+}
+
+/// Whether a case has operators, labels, calls, operands, entries on the call stack and memory.
+fn has_all_parts(case: &[u32]) -> bool {
+    case[3..9].iter().all(|&count| count > 0)
+}
+
+/// A case, once for each number that the engine is to answer, with that number changed.
+fn altered(case: &[u32]) -> Vec<Vec<u32>> {
+    let [text, operators, labels, calls] = [0, 4, 5, 6].map(|place| case[place] as usize);
+    let called = 9 + text + 4 * operators + 3 * labels;
+    let asked = |place: usize| (called..called + 11 * calls).contains(&place) && (place - called) % 11 < 3;
+    let changed = |place: usize| {
+        let mut case = case.to_vec();
+        case[place] ^= 1;
+        case
+    };
+    (9 + text..case.len()).filter(|&place| !asked(place)).map(changed).collect()
 }
 
 fn encoded(number: u32) -> Vec<u8> {
@@ -165,12 +191,25 @@ fn call_of([code, first, second]: [u32; 3]) -> Call {
 pub fn replay(folder: &Path, engine: &dyn Engine) -> io::Result<(usize, usize)> {
     let (mut cases, mut agreeing) = (0, 0);
     for (name, _) in SHARES {
-        let numbers = decoded(&fs::read(file(folder, name))?).ok_or(io::ErrorKind::UnexpectedEof)?;
-        let mut reader = Reader { numbers: &numbers };
-        while !reader.numbers.is_empty() {
-            cases += 1;
-            agreeing += usize::from(reader.case(engine));
-        }
+        let played = replay_file(&file(folder, name), engine)?;
+        cases += played.0;
+        agreeing += played.1;
+    }
+    Ok((cases, agreeing))
+}
+
+/// The same for the altered cases, of which none may agree.
+pub fn replay_altered(folder: &Path, engine: &dyn Engine) -> io::Result<(usize, usize)> {
+    replay_file(&folder.join(ALTERED), engine)
+}
+
+fn replay_file(path: &Path, engine: &dyn Engine) -> io::Result<(usize, usize)> {
+    let numbers = decoded(&fs::read(path)?).ok_or(io::ErrorKind::UnexpectedEof)?;
+    let mut reader = Reader { numbers: &numbers };
+    let (mut cases, mut agreeing) = (0, 0);
+    while !reader.numbers.is_empty() {
+        cases += 1;
+        agreeing += usize::from(reader.case(engine));
     }
     Ok((cases, agreeing))
 }
