@@ -17,7 +17,7 @@ side-by-side a j k h =
     rw (shifted a j k) (or-shifted (a % 2 ^ j) k (a / 2 ^ j) (shr-lt k j (rw (add-comm j k) at h)))
 
 pub right-as-left : {a b : ℕ} → a < 2 ^ 32 → b < 2 ^ 32 → rotateRight a b ≡ rotateLeft a (wrappingSub 0 b)
-unfolding rotateRight rotateLeft wrappingSub
+unfolding rotateRight rotateLeft
 right-as-left {a} {b} h l =
     let e : places (wrap (0 + (2 ^ 32 - b))) ≡ (32 - places b) % 32 = omega arith in
     rw e (go (places b) (omega arith))

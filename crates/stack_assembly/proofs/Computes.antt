@@ -20,5 +20,5 @@ use Rattle.stack_assembly.specs.Beside.{sourceFrom, source, entryFrom, c
 use Rattle.stack_assembly.specs.Evaluator.{begun, worked}
 
 unfoldable pub all : Unit {0}
-unfolding wellFormed follow led front charsFrom chars illFormedAt white tokensFrom tokens digitOf digits magnitude positive negative i32 u32 i32OrU32 hexadecimal kindOf sameBytes onesIn leadingZeros trailingZeros wrappingMul wrappingSub quotient remainder divide less atMost equal greater atLeast rotateLeft rotateRight shiftRight number isRefusal isLimit flatMap operatorsOf labelsOf scriptOf recordsIn scriptIn compileAnswer compile words lookup popFrom unary binary divided without copied dropped jumpedIf entered called calledEither returned asserted readAt writtenAt evaluated resolved ofKind fetchedFrom fetched pushed outcome settled stepUnder step followed run cleared hostPushed hostPopped hostRead hostWritten performed performedAll live machineOf roomOf forged fresh sourceFrom source entryFrom callStackAt begun worked
+unfolding wellFormed follow led front charsFrom chars illFormedAt white tokensFrom tokens digitOf digits magnitude positive negative i32 u32 i32OrU32 hexadecimal kindOf sameBytes onesIn leadingZeros trailingZeros wrappingMul quotient remainder divide less atMost rotateLeft rotateRight shiftRight number isRefusal isLimit flatMap operatorsOf labelsOf scriptOf recordsIn scriptIn compileAnswer compile words lookup popFrom unary binary divided without copied dropped jumpedIf entered called calledEither returned asserted readAt writtenAt evaluated resolved ofKind fetchedFrom fetched pushed outcome settled stepUnder step followed run cleared hostPushed hostPopped hostRead hostWritten performed performedAll live machineOf roomOf forged fresh sourceFrom source entryFrom callStackAt begun worked
 all = tt

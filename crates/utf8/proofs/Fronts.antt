@@ -14,7 +14,7 @@ use Rattle.utf8.specs.Utf8.{Row, wellFormed, Front, illFormed, scalar, f
 use Rattle.utf8.specs.declared.chars.Char.the-variants.{Missing, Other}
 use Rattle.utf8.specs.WhiteSpace.{white}
 use Rattle.utf8.specs.Answers.{charOf}
-use Rattle.utf8.specs.Private.{lowAfter, highAfter, Starts}
+use Rattle.utf8.specs.Private.{either, lowAfter, highAfter, Starts}
 use Rattle.base.proofs.Tests.{cond-either, ap-cond, cond-and, both, within-true, all, all-at}
 
 -- what a first byte asks: its share of the value is above mark, and more bytes follow, the next from low to high
@@ -53,7 +53,7 @@ same-eq (asks m n l h) (asks m′ n′ l′ h′) t =
     cc (eqb-true m m′ (r .0), eqb-true n n′ (r .1), eqb-true l l′ (q .1), eqb-true h h′ (p .1))
 
 test : all 256 (λ b. same (tabled b wellFormed) (coded b)) ≡ true
-unfolding wellFormed coded lowAfter highAfter same tabled
+unfolding wellFormed coded either same tabled
 test = refl
 
 tabled-coded : (b : ℕ) → b < 256 → tabled b wellFormed ≡ coded b
@@ -237,7 +237,7 @@ module _ (bytes : List ℕ) (a : ℕ) where
 
     pub other-four : {b c d : ℕ} → b ≡ getD bytes 1 0 → c ≡ getD bytes 2 0 → d ≡ getD bytes 3 0 → 4 ≤ length bytes
         → (within (lowAfter a) (highAfter a) b && within 0x80 0xBF c && within 0x80 0xBF d) ≡ true → Other 4 ≡ charOf (front bytes)
-    unfolding lowAfter highAfter
+    unfolding either
     other-four {b} {c} {d} second third fourth h t = rw (at-four second third fourth h, t) (other ((((a - 0xF0) * 64 + b % 64) * 64 + c % 64) * 64 + d % 64) 4 (go (eqb a 0xF0) refl))
       where
         second-byte : (lowAfter a ≤ b) × (b ≤ highAfter a)

@@ -5,7 +5,7 @@ ghost use mathlib.Core.Path.{_≡_};
 ghost use Prim.Native.Nat.{_+_, _-_, _*_, _%_, _<_};
 ghost use Rattle.utf8.specs.Utf8.{scalar, front};
 ghost use Rattle.utf8.specs.Answers.{charOf};
-ghost use Rattle.utf8.specs.Private.{lowAfter, highAfter, Starts};
+ghost use Rattle.utf8.specs.Private.{either, lowAfter, highAfter, Starts};
 
 // A character with its width in bytes. Missing: the bytes are ill-formed, or there are none.
 pub enum Char {
@@ -29,30 +29,31 @@ fn char_of(value: u32, width: usize) -> Char
     Char::Other(width)
 }
 
+// u where a is x, v where it is y, else w.
+fn either(a: u32, x: u32, u: u32, y: u32, v: u32, w: u32) -> u32
+    ensures { λ r. ⌜ r ≡ either a x u y v w ⌝ }
+{
+    if a == x {
+        return u;
+    }
+    if a == y {
+        return v;
+    }
+    w
+}
+
 // The least byte that may follow the first byte a of a sequence of three or four.
 fn second_low(a: u32) -> u32
     ensures { λ r. ⌜ r ≡ lowAfter a ⌝ }
 {
-    if a == 0xE0 {
-        return 0xA0;
-    }
-    if a == 0xF0 {
-        return 0x90;
-    }
-    0x80
+    either(a, 0xE0, 0xA0, 0xF0, 0x90, 0x80)
 }
 
 // The greatest one.
 fn second_high(a: u32) -> u32
     ensures { λ r. ⌜ r ≡ highAfter a ⌝ }
 {
-    if a == 0xED {
-        return 0x9F;
-    }
-    if a == 0xF4 {
-        return 0x8F;
-    }
-    0xBF
+    either(a, 0xED, 0x9F, 0xF4, 0x8F, 0xBF)
 }
 
 fn two(a: u32, bytes: &[u8]) -> Char

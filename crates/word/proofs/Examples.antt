@@ -5,7 +5,7 @@ use Rattle.word.specs.Word.{wrappingMul, wrappingSub, quotient, remainde
 use Rattle.word.specs.Examples.{Examples}
 
 pub examples : Examples
-unfolding onesIn leadingZeros trailingZeros wrappingMul wrappingSub quotient remainder divide less atMost equal greater atLeast rotateLeft rotateRight shiftRight
+unfolding onesIn leadingZeros trailingZeros wrappingMul quotient remainder divide less atMost rotateLeft rotateRight shiftRight
 examples =
     record {
       product = refl;

@@ -51,7 +51,6 @@ size-kept (negsuc m) zero = refl
 size-kept (negsuc m) (suc n) = refl
 
 negated : (z : ℤ) → natAbs z < 2 ^ 32 → unsigned (negℤ z) ≡ wrappingSub 0 (unsigned z)
-unfolding wrappingSub
 negated (pos zero) h = refl
 negated (pos (suc n)) h = omega arith
 negated (negsuc n) h = omega arith

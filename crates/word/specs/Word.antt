@@ -28,7 +28,7 @@ wrappingMul a b = wrap (a * b)
 abbrev pub wrappingAdd : ℕ → ℕ → ℕ
 wrappingAdd a b = wrap (a + b)
 
-unfoldable pub wrappingSub : ℕ → ℕ → ℕ
+abbrev pub wrappingSub : ℕ → ℕ → ℕ
 wrappingSub a b = wrap (a + (2 ^ 32 - b))
 
 -- The signed quotient, rounded toward zero, and its remainder, with a's sign.
@@ -59,14 +59,14 @@ less a b = truth (ltZ (signed a) (signed b))
 unfoldable pub atMost : ℕ → ℕ → ℕ
 atMost a b = truth (leZ (signed a) (signed b))
 
-unfoldable pub equal : ℕ → ℕ → ℕ
+abbrev pub equal : ℕ → ℕ → ℕ
 equal a b = truth (eqb a b)
 
-unfoldable pub greater : ℕ → ℕ → ℕ
-greater a b = truth (ltZ (signed b) (signed a))
+abbrev pub greater : ℕ → ℕ → ℕ
+greater a b = less b a
 
-unfoldable pub atLeast : ℕ → ℕ → ℕ
-atLeast a b = truth (leZ (signed b) (signed a))
+abbrev pub atLeast : ℕ → ℕ → ℕ
+atLeast a b = atMost b a
 
 -- Bit by bit.
 abbrev pub bitwiseAnd : ℕ → ℕ → ℕ
