@@ -16,6 +16,7 @@ use Rattle.stack_assembly.specs.Operators.{entered, returned, evaluated}
 use Rattle.stack_assembly.specs.Step.{Fetched, pushes, word, pushed, outcome, advanced, settled}
 use Rattle.stack_assembly.specs.Host.{live}
 use Rattle.stack_assembly.specs.Promise.{Kept}
+use Rattle.recall.proofs.Remembering.{code-end}
 use Rattle.steps.specs.declared.outcome.Store.{Store}
 use Rattle.steps.specs.declared.outcome.Outcome.{Outcome}
 use Rattle.fetch.specs.declared.codes.Code.{Code}
@@ -243,12 +244,6 @@ module _ (code : Code) where
   unfolding fetchedOf
   code-word h l = rw (le-ltb (code .op) 2 h, lt-ltb (code .op) 32 l)
 
-  pub code-end : (k : ℕ) → code .op ≡ 32 + k → fetchedOf code ≡ endOf k (code .value)
-  unfolding fetchedOf
-  code-end k e =
-      let n : code .op - 32 ≡ k = omega arith in
-      rw (le-ltb (code .op) 2 (omega arith), le-ltb (code .op) 32 (omega arith), n)
-
   pub comes-as : {f : Fetched} → fetchedOf code ≡ f → (room : Room) (m : machine.Store) {s : Store} {os cs ms : List ℕ} {r : Outcome} {os′ cs′ ms′ : List ℕ}
       → Comes (outcome room f m) s os cs ms r os′ cs′ ms′ → Comes (outcome room (fetchedOf code) m) s os cs ms r os′ cs′ ms′
   comes-as e room m {s} {os} {cs} {ms} {r} {os′} {cs′} {ms′} p =
@@ -272,12 +267,12 @@ module _ (code : Code) where
     where
       go : (k : ℕ) → code .op ≡ 31 + k → outcome room (fetchedOf code) m ≡ outcomeOf (effectOf (code .op)) m
       go zero e = let n : code .op - 2 ≡ 29 = omega arith in rw (code-word (omega arith) (omega arith), n, e)
-      go (suc zero) e = rw (code-end 0 e, e)
+      go (suc zero) e = rw (code-end code 0 e, e)
       go (suc (suc zero)) e = absurd (d e)
-      go (suc (suc (suc zero))) e = rw (code-end 2 e, e)
+      go (suc (suc (suc zero))) e = rw (code-end code 2 e, e)
       go (suc (suc (suc (suc k)))) e =
           rw (
-            code-end (suc (suc (suc k))) (omega arith),
+            code-end code (suc (suc (suc k))) (omega arith),
             ne-eqb (code .op) 31 (omega arith),
             ne-eqb (code .op) 32 (omega arith),
             ne-eqb (code .op) 34 (omega arith),
@@ -294,7 +289,7 @@ module _ (code : Code) where
         → ComesOn (λ room m. outcome room (fetchedOf code) m) s os (record { store = s; number = 26; value = code .value }) os
     unfolding outcome
     ends-damaged e h room cs ms a b =
-        comes-refused s os cs ms 25 (code .value) (ap (λ (f : Fetched). outcome room f (advanced (storeIn s os cs ms))) (code-end 1 e)) (omega arith) (record { operands = h; calls = b })
+        comes-refused s os cs ms 25 (code .value) (ap (λ (f : Fetched). outcome room f (advanced (storeIn s os cs ms))) (code-end code 1 e)) (omega arith) (record { operands = h; calls = b })
 
     pub ends-raise : 31 ≤ code .op → (code .op ≡ 33 → ⊥) → s .«operand_depth» ≤ length os → {effect : ℕ} → effect ≡ effectOf (code .op)
         → {r : Outcome} → r ≡ leaving s (record { depth = s .«operand_depth»; effect = effect }) → ComesOn (λ room m. outcome room (fetchedOf code) m) s os r os

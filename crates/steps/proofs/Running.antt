@@ -19,9 +19,10 @@ use Rattle.steps.specs.declared.outcome.Store.{Store}
 use Rattle.steps.specs.declared.outcome.Outcome.{Outcome}
 use Rattle.steps.specs.declared.steps.Stretch.{Stretch}
 use Rattle.fetch.specs.declared.codes.Code.{Code}
-use Rattle.steps.specs.Private.{doneBy, Comes, Finds, counted, Start, startRoom, deepest, Going, Ended, valueOf}
+use Rattle.steps.specs.Private.{doneBy, Comes, counted, Start, startRoom, deepest, Going, Ended, valueOf}
 use Rattle.steps.specs.Runs.{storeIn, room, machineIn, standing}
 use Rattle.fetch.specs.Codes.{fetchedOf}
+use Rattle.recall.specs.Known.{Finds}
 
 -- ---- a stack's words
 

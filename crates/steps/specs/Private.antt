@@ -80,29 +80,6 @@ Returns s cs r = (room : Room) (os ms : List ℕ) → s .«operand_depth» ≤ l
 abbrev pub effectOf : (op : ℕ) → ℕ
 effectOf op = cond (eqb op 31) 11 (cond (eqb op 32) 10 (cond (eqb op 34) 6 8))
 
--- A code for what the definition fetches.
-pub record Finds (s : Script) (next : ℕ) (c : Code) : Type 0 where
-  pub fetched : fetchedOf c ≡ fetched s next
-  pub small : Small c
-
--- A remembered word: the operation is its remainder by 64.
-abbrev pub decoded : (word : ℕ) → Code
-decoded w = record { op = w % 64; value = w / 64 }
-
--- What was fetched is remembered where there is room, but for a damaged record.
-abbrev pub Remembers : Code → (next : ℕ) (before after : List ℕ) → Type 0
-Remembers c next before after =
-    (after ≡ before) ⊎ ((c .op < 33) × (after ≡ set before next (c .value % 2 ^ 32 * 64 + c .op)))
-
--- Nothing is remembered.
-abbrev pub isBlank : (known : List ℕ) → Bool
-isBlank [] = true
-isBlank (w ∷ known) = cond (eqb w 0) (isBlank known) false
-
--- Each word that is not 0 decodes to what is fetched at its place.
-pub record Knows (s : Script) (known : List ℕ) : Type 0 where
-  pub each : (at : ℕ) → (getD known at 0 ≡ 0) ⊎ Finds s at (decoded (getD known at 0))
-
 -- So many steps were made before.
 abbrev pub counted : ℕ → Done → Done
 counted k d = done (d .answer .number) (d .answer .value) (k + d .answer .steps) (d .machine)

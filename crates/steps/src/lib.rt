@@ -2,7 +2,6 @@
 mod budget;
 mod calls;
 mod evaluated;
-mod known;
 mod outcome;
 mod steps;
 

@@ -3,13 +3,14 @@ ghost use mathlib.Core.Bool.{true};
 ghost use mathlib.Core.Path.{_≡_};
 ghost use Prim.Native.Nat.{_<_, _^_};
 ghost use Rattle.stack_assembly.specs.Script.{scriptIn};
-ghost use Rattle.steps.specs.Private.{isBlank, Goes, valueOf};
+ghost use Rattle.steps.specs.Private.{Goes, valueOf};
 ghost use Rattle.fetch.specs.Codes.{lent};
+ghost use Rattle.recall.specs.Known.{isBlank};
 ghost use Rattle.steps.specs.Runs.{Fits};
 use crate::evaluated::evaluated;
-use crate::known::fetched;
 use crate::outcome::Store;
 use crate::outcome::next_after;
+use recall::fetched;
 
 // How steps ended: 0 where the budget is used, else an effect or a refusal with its value; and what was left of the budget before the last one.
 pub(crate) struct Stretch {

@@ -6,8 +6,9 @@ use lib.ListN.{length}
 use Rattle.stack_assembly.specs.Script.{scriptIn}
 use Rattle.fetch.specs.Codes.{lent}
 use Rattle.steps.specs.Runs.{Fits}
-use Rattle.steps.specs.Private.{Knows, startOf, Going}
-use Rattle.steps.proofs.Remembering.{knows-none}
+use Rattle.recall.specs.Known.{Knows}
+use Rattle.steps.specs.Private.{startOf, Going}
+use Rattle.recall.proofs.Remembering.{knows-none, recalls}
 use Rattle.steps.proofs.Stretches.{going-start}
 use Rattle.steps.proofs.Running.{going-more, going-ends}
 use borrow.Author.Needs.{needs}
@@ -33,9 +34,7 @@ loop-holds c =
     (refl, refl, refl, refl, start .pre .0, knows-none s (start .pre .1), going-start s (start .pre .0), omega arith)
 
 fetched-requires : tie.Need-fetched-requires Inv-loop μ-loop
-fetched-requires c κs =
-    let at-loop = c .before .before in
-    at-loop .loop .inv .5
+fetched-requires c κs = search needs
 
 next-after-requires : tie.Need-next-after-requires Inv-loop μ-loop
 next-after-requires c κs = search needs
@@ -45,7 +44,7 @@ evaluated-requires c κs =
     let at-next-after = c .before .before .before in
     let at-fetched = at-next-after .before .before .before in
     let at-loop = at-fetched .before .before .before in
-    (at-loop .loop .inv .4, at-fetched .fetched .ensures .0 .small, at-next-after .next-after .ensures)
+    (at-loop .loop .inv .4, recalls (at-loop .loop .inv .5) (at-fetched .fetched .ensures) .0 .small, at-next-after .next-after .ensures)
 
 value-of-requires : tie.Need-value-of-requires Inv-loop μ-loop
 value-of-requires c κs = search needs
@@ -83,7 +82,7 @@ returns c =
       least = at-loop .loop .inv .7;
       more = λ _. omega arith;
       spent = λ z. absurd (c .before .if1 .taken z);
-      ended = λ z o. going-ends (at-loop .loop .inv .6 o) (at-fetched .fetched .ensures .0) (at-evaluated .evaluated .ensures) (at-loop .loop .left - 1) (omega arith) z (c .value-of .ensures);
+      ended = λ z o. going-ends (at-loop .loop .inv .6 o) (recalls (at-loop .loop .inv .5) (at-fetched .fetched .ensures) .0) (at-evaluated .evaluated .ensures) (at-loop .loop .left - 1) (omega arith) z (c .value-of .ensures);
     }
 
 sub-left : tie.Need-sub-left Inv-loop μ-loop
@@ -102,8 +101,8 @@ loop-again c =
       at-evaluated .evaluated .kept .1 .1 .1 .1 .0 ∙ at-loop .loop .inv .2,
       at-evaluated .evaluated .kept .1 .1 .1 .1 .1 .0 ∙ at-loop .loop .inv .3,
       record { operands = at-evaluated .evaluated .ensures .operands .holds; calls = at-evaluated .evaluated .ensures .calls .holds },
-      at-fetched .fetched .ensures .1,
-      λ o. going-more (at-loop .loop .inv .6 o) (at-fetched .fetched .ensures .0) (at-evaluated .evaluated .ensures) (at-loop .loop .left - 1) (omega arith) (c .if1 .left),
+      recalls (at-loop .loop .inv .5) (at-fetched .fetched .ensures) .1,
+      λ o. going-more (at-loop .loop .inv .6 o) (recalls (at-loop .loop .inv .5) (at-fetched .fetched .ensures) .0) (at-evaluated .evaluated .ensures) (at-loop .loop .left - 1) (omega arith) (c .if1 .left),
       omega (arith, at-loop .loop .inv .7),
     )
 

@@ -1,15 +1,17 @@
 -- Only the word of the place is written, and only where it fits.
-use mathlib.Core.Logic.{inl, inr}
-use mathlib.Core.Path.{refl}
 use borrow.Author.Needs.{needs}
-use Rattle.steps.proofs.known.remember.Statement.{statement}
-use Rattle.steps.proofs.known.remember.Tie as tie
+use borrow.Author.Tests.{lt-ltb, le-ltb}
+use Rattle.recall.proofs.Remembering.{remembered-out}
+use Rattle.recall.proofs.known.remember.Statement.{statement}
+use Rattle.recall.proofs.known.remember.Tie as tie
 
 returns : tie.Need-returns
-returns c = inl refl
+returns c =
+    let args = c .before .args in
+    remembered-out (args .code) (args .next) (args .known .now) (search needs)
 
 returns-2 : tie.Need-returns-2
-returns-2 c = inl refl
+returns-2 c = rw (le-ltb (c .before .before .args .code .op) 33 (c .if2 .taken))
 
 mul-known : tie.Need-mul-known
 mul-known c = search needs
@@ -27,7 +29,7 @@ same-length : tie.Need-same-length
 same-length c = search needs
 
 returns-3 : tie.Need-returns-3
-returns-3 c = inr (c .if2 .left, refl)
+returns-3 c = rw (lt-ltb (c .before .before .args .code .op) 33 (c .if2 .left))
 
 pub remember-spec : {M : Type 1} → statement M
 remember-spec =

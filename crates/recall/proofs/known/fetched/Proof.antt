@@ -1,9 +1,9 @@
--- What is recalled was found before; what is found now is remembered, and all that is known stays true.
-use Rattle.fetch.specs.Codes.{lent}
-use Rattle.steps.proofs.Remembering.{recalled, knows-more, finds}
+-- By whether the word of the place is 0.
+use mathlib.Core.Path.{refl, sym, _∙_}
+use Rattle.recall.specs.Recalled.{Recalls}
 use borrow.Author.Needs.{needs}
-use Rattle.steps.proofs.known.fetched.Statement.{statement}
-use Rattle.steps.proofs.known.fetched.Tie as tie
+use Rattle.recall.proofs.known.fetched.Statement.{statement}
+use Rattle.recall.proofs.known.fetched.Tie as tie
 
 recalled-requires : tie.Need-recalled-requires
 recalled-requires c κs = search needs
@@ -17,8 +17,8 @@ same-length c = search needs
 returns : tie.Need-returns
 returns c =
     let at-recalled = c .before .before in
-    let start = at-recalled .before .before .before .before .before .before in
-    (recalled (start .pre) (at-recalled .recalled .ensures) (c .before .if1 .taken) (c .decoded .ensures), start .pre)
+    let some = rw (at-recalled .recalled .ensures) at (c .before .if1 .taken) in
+    Recalls.recalled some (rw (at-recalled .recalled .ensures) at (c .decoded .ensures)) refl
 
 integer-requires : tie.Need-integer-requires
 integer-requires c κs = search needs
@@ -33,11 +33,11 @@ returns-2 : tie.Need-returns-2
 returns-2 c =
     let at-remember = c .before .before in
     let at-integer = at-remember .before .before .before in
-    let start = at-integer .before .before .before .before .before .before .before .before in
-    let tables = lent (start .args .text .now) (start .args .operators .now) (start .args .labels .now) in
+    let at-recalled = at-integer .before .before in
+    let start = at-recalled .before .before .before .before .before .before in
     let integer = at-integer .integer .ensures (start .args .labels .now) in
-    let f = finds tables (start .args .next) (integer .coded (at-remember .before .before .if2 .taken)) (integer .small) in
-    (f, knows-more (start .pre) f (at-remember .remember .ensures))
+    let none = sym (at-recalled .recalled .ensures) ∙ at-integer .before .if1 .left in
+    Recalls.looked-up none (record { coded = integer .coded (at-remember .before .before .if2 .taken); small = integer .small }) (at-remember .remember .ensures)
 
 fetch-requires : tie.Need-fetch-requires
 fetch-requires c κs = search needs
@@ -52,10 +52,9 @@ returns-3 : tie.Need-returns-3
 returns-3 c =
     let at-remember = c .before .before in
     let at-fetch = at-remember .before .before in
-    let start = at-fetch .before .before .before .before .before .before .before .before .before .before in
-    let tables = lent (start .args .text .now) (start .args .operators .now) (start .args .labels .now) in
-    let f = finds tables (start .args .next) (at-fetch .fetch .ensures .coded) (at-fetch .fetch .ensures .small) in
-    (f, knows-more (start .pre) f (at-remember .remember2 .ensures))
+    let at-if1 = at-fetch .before .before .before in
+    let none = sym (at-if1 .before .recalled .ensures) ∙ at-if1 .if1 .left in
+    Recalls.looked-up none (at-fetch .fetch .ensures) (at-remember .remember2 .ensures)
 
 pub fetched-spec : {M : Type 1} → statement M
 fetched-spec =

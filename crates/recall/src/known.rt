@@ -1,8 +1,7 @@
 // What was fetched is remembered: neither text nor tables change while steps are made.
 ghost use mathlib.Core.Path.{_≡_};
 ghost use lib.ListN.{getD};
-ghost use Rattle.stack_assembly.specs.Script.{scriptIn};
-ghost use Rattle.steps.specs.Private.{Finds, Knows, decoded, Remembers};
+ghost use Rattle.recall.specs.Recalled.{decoded, remembered, Recalls};
 ghost use Rattle.fetch.specs.Codes.{lent};
 use fetch::Code;
 use fetch::fetch;
@@ -30,7 +29,7 @@ fn decoded(word: u64) -> Code
 
 // A damaged record ends the run, so its place need not fit.
 fn remember(known: &mut [u64], next: u32, code: Code)
-    ensures { λ _. ⌜ Remembers code next (now (known .entry)) (now (known .exit)) ⌝ }
+    ensures { λ _. ⌜ now (known .exit) ≡ remembered code next (now (known .entry)) ⌝ }
 {
     let at = next as usize;
     let op = code.op;
@@ -44,15 +43,8 @@ fn remember(known: &mut [u64], next: u32, code: Code)
     known[at] = ((value % 0x1_0000_0000) as u64) * 64 + (op as u64);
 }
 
-pub(crate) fn fetched(
-    known: &mut [u64],
-    text: &[u8],
-    operators: &[u32],
-    labels: &[u32],
-    next: u32,
-) -> Code
-    requires { ⌜ Knows (scriptIn (lent (now text) (now operators) (now labels))) (now known) ⌝ }
-    ensures { λ r. ⌜ Finds (scriptIn (lent (now (text .entry)) (now (operators .entry)) (now (labels .entry)))) next r × Knows (scriptIn (lent (now (text .entry)) (now (operators .entry)) (now (labels .entry)))) (now (known .exit)) ⌝ }
+pub fn fetched(known: &mut [u64], text: &[u8], operators: &[u32], labels: &[u32], next: u32) -> Code
+    ensures { λ r. ⌜ Recalls (lent (now (text .entry)) (now (operators .entry)) (now (labels .entry))) next (now (known .entry)) r (now (known .exit)) ⌝ }
 {
     let word = recalled(known, next);
     if word != 0 {

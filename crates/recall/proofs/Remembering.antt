@@ -1,26 +1,28 @@
--- What is remembered of what was fetched.
-use Prim.Native.Nat.{ℕ, zero, suc, _+_, _*_, _/_, _%_, _^_, _<_}
+-- A look that remembers finds what the definition fetches, and all that is known stays true.
+use Prim.Native.Nat.{ℕ, zero, suc, _+_, _-_, _*_, _/_, _%_, _^_, _≤_, _<_}
 use mathlib.Core.Bool.{Bool, true, false, cond}
 use mathlib.Core.List.{List, [], _∷_}
 use mathlib.Core.Logic.{_⊎_, inl, inr}
 use mathlib.Core.Path.{_≡_, refl, sym, ap, _∙_, subst⁻¹}
 use native.Mathlib.Omega.{arith}
-use borrow.Author.Tests.{eqb-true, eqb-false, ltb-true, ltb-false}
+use borrow.Author.Tests.{eqb-true, eqb-false, ltb-true, ltb-false, le-ltb}
 use lib.Dec.{eqb, ltb}
 use lib.ListN.{length, getD, set}
 use lib.Seq.{getD-set-same, getD-set-other, set-out}
 use Rattle.base.proofs.Tests.{absurd-bool}
 use Rattle.stack_assembly.specs.Script.{Script, Tables, scriptIn}
-use Rattle.stack_assembly.specs.Step.{fetched}
 use Rattle.fetch.proofs.Fetched.{fetched-is}
 use Rattle.fetch.specs.declared.codes.Code.{Code}
-use Rattle.steps.specs.Private.{Finds, decoded, Remembers, isBlank, Knows}
-use Rattle.steps.proofs.Comes.{code-end}
-use Rattle.fetch.specs.Codes.{fetchedOf, codeOf, Small}
+use Rattle.fetch.specs.Codes.{fetchedOf, endOf, Fetches}
+use Rattle.recall.specs.Recalled.{decoded, wordOf, remembered, Recalls, recalled, looked-up}
+use Rattle.recall.specs.Known.{Finds, isBlank, Knows}
 
--- the word that a code is remembered by
-abbrev wordOf : Code → ℕ
-wordOf c = c .value % 2 ^ 32 * 64 + c .op
+-- a code from 32 on, by how far it is past it
+pub code-end : (code : Code) (k : ℕ) → code .op ≡ 32 + k → fetchedOf code ≡ endOf k (code .value)
+unfolding fetchedOf
+code-end code k e =
+    let n : code .op - 32 ≡ k = omega arith in
+    rw (le-ltb (code .op) 2 (omega arith), le-ltb (code .op) 32 (omega arith), n)
 
 -- it decodes to a code for the same: only a push has a value
 same-code : (c : Code) → c .op < 33 → (c .op < 2 → c .value < 2 ^ 32) → fetchedOf (decoded (wordOf c)) ≡ fetchedOf c
@@ -42,15 +44,15 @@ same-code c h small =
         go-end false f = let z : c .op ≡ 32 + 0 = omega (arith, ltb-false (c .op) 32 f) in code-end (record { op = c .op; value = c .value % 2 ^ 32 }) 0 z ∙ sym (code-end c 0 z)
 
 module _ {s : Script} {known : List ℕ} (k : Knows s known) where
-  pub recalled : {next word : ℕ} → word ≡ getD known next 0 → (word ≡ 0 → ⊥) → {c : Code} → c ≡ decoded word → Finds s next c
-  recalled {next} e n {c} d = subst⁻¹ (Finds s next) (d ∙ ap decoded e) (go (k .each next))
+  knew : {next : ℕ} → (getD known next 0 ≡ 0 → ⊥) → {c : Code} → c ≡ decoded (getD known next 0) → Finds s next c
+  knew {next} n {c} d = subst⁻¹ (Finds s next) d (go (k .each next))
     where
       go : (getD known next 0 ≡ 0) ⊎ Finds s next (decoded (getD known next 0)) → Finds s next (decoded (getD known next 0))
-      go (inl z) = absurd (n (e ∙ z))
+      go (inl z) = absurd (n z)
       go (inr f) = f
 
-  remembered : {next : ℕ} {c : Code} → c .op < 33 → Finds s next c → Knows s (set known next (wordOf c))
-  remembered {next} {c} h f = record { each = λ at. go at (eqb at next) refl (ltb next (length known)) refl }
+  knows-word : {next : ℕ} {c : Code} → c .op < 33 → Finds s next c → Knows s (set known next (wordOf c))
+  knows-word {next} {c} h f = record { each = λ at. go at (eqb at next) refl (ltb next (length known)) refl }
     where
       go : (at : ℕ) (t : Bool) → eqb at next ≡ t → (l : Bool) → ltb next (length known) ≡ l
           → (getD (set known next (wordOf c)) at 0 ≡ 0) ⊎ Finds s at (decoded (getD (set known next (wordOf c)) at 0))
@@ -61,9 +63,12 @@ module _ {s : Script} {known : List ℕ} (k : Knows s known) where
       go at true e false l = rw (set-out known next (wordOf c) (ltb-false next (length known) l)) (k .each at)
       go at false e l m = rw (getD-set-other known next at (wordOf c) 0 (eqb-false at next e)) (k .each at)
 
-  pub knows-more : {next : ℕ} {c : Code} {known′ : List ℕ} → Finds s next c → Remembers c next known known′ → Knows s known′
-  knows-more f (inl e) = subst⁻¹ (Knows s) e k
-  knows-more f (inr (h, e)) = subst⁻¹ (Knows s) e (remembered h f)
+  knows-more : {next : ℕ} {c : Code} → Finds s next c → Knows s (remembered c next known)
+  knows-more {next} {c} f = go (ltb (c .op) 33) refl
+    where
+      go : (t : Bool) → ltb (c .op) 33 ≡ t → Knows s (cond t (set known next (wordOf c)) known)
+      go true h = knows-word (ltb-true (c .op) 33 h) f
+      go false h = k
 
 -- nothing is known where nothing was remembered
 zeros : (known : List ℕ) → isBlank known ≡ true → (at : ℕ) → _≡_ {A = ℕ} (getD known at 0) 0
@@ -79,5 +84,21 @@ zeros (w ∷ known) e at = go (eqb w 0) refl e (zeros known) at
 pub knows-none : (s : Script) {known : List ℕ} → isBlank known ≡ true → Knows s known
 knows-none s {known} e = record { each = λ at. inl (zeros known e at) }
 
-pub finds : (tables : Tables) (next : ℕ) {c : Code} → c ≡ codeOf (fetched (scriptIn tables) next) → Small c → Finds (scriptIn tables) next c
-finds tables next e h = record { fetched = fetched-is tables next e; small = h }
+finds : (tables : Tables) (next : ℕ) {c : Code} → Fetches tables next c → Finds (scriptIn tables) next c
+finds tables next f = record { fetched = fetched-is tables next (f .coded); small = f .small }
+
+-- a look finds what the definition fetches, and all that is known stays true
+pub recalls : {tables : Tables} {next : ℕ} {known : List ℕ} {r : Code} {known′ : List ℕ} → Knows (scriptIn tables) known
+    → Recalls tables next known r known′ → Finds (scriptIn tables) next r × Knows (scriptIn tables) known′
+recalls {tables} k (recalled n d same) = (knew k n d, subst⁻¹ (Knows (scriptIn tables)) same k)
+recalls {tables} {next} k (looked-up z f more) =
+    let found = finds tables next f in
+    (found, subst⁻¹ (Knows (scriptIn tables)) more (knows-more k found))
+
+-- past the end there is no place
+pub remembered-out : (c : Code) (next : ℕ) (known : List ℕ) → length known ≤ next → known ≡ remembered c next known
+remembered-out c next known h = go (ltb (c .op) 33)
+  where
+    go : (t : Bool) → known ≡ cond t (set known next (wordOf c)) known
+    go true = sym (set-out known next (wordOf c) h)
+    go false = refl

@@ -2,8 +2,8 @@
 use mathlib.Core.Path.{sym}
 use lib.ListN.{List·getD-eq-default}
 use borrow.Author.Needs.{needs}
-use Rattle.steps.proofs.known.recalled.Statement.{statement}
-use Rattle.steps.proofs.known.recalled.Tie as tie
+use Rattle.recall.proofs.known.recalled.Statement.{statement}
+use Rattle.recall.proofs.known.recalled.Tie as tie
 
 mul-result : tie.Need-mul-result
 mul-result c = search needs
