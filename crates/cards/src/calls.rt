@@ -1,7 +1,7 @@
 // The calls of a host, each a row: which call it is, and its operands. os, cs and ms are the operand stack, the call stack and the memory.
-use eval::Answered;
-use eval::Eval;
 use script::Script;
+use state::Answered;
+use state::Eval;
 
 pub(crate) fn step() -> [u32; 3] {
     [0, 0, 0]
@@ -156,7 +156,7 @@ pub(crate) fn print_all(
     cs: &mut [u32],
     ms: &mut [u32],
 ) {
-    let mut state = eval::new(ms);
+    let mut state = state::new(ms);
     let mut i = 0;
     while i < rows.len() {
         let row = rows[i];

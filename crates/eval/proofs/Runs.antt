@@ -6,7 +6,7 @@ use mathlib.Core.Path.{_≡_, refl, sym, ap, _∙_, subst}
 use native.Mathlib.Omega.{arith}
 use borrow.Author.Tests.{eqb-true}
 use lib.Dec.{ltb, eqb}
-use lib.ListN.{length, take}
+use lib.ListN.{take}
 use Rattle.base.proofs.Tests.{absurd-bool, both}
 use Rattle.stack_assembly.specs.Answer.{answer, isRefusal}
 use Rattle.stack_assembly.specs.Script as definition
@@ -14,11 +14,10 @@ use Rattle.stack_assembly.specs.Script.{scriptIn}
 use Rattle.stack_assembly.specs.Machine.{Store, Machine, Room, Done, done, withStore}
 use Rattle.stack_assembly.specs.Step.{advanced, stepUnder, step}
 use Rattle.stack_assembly.specs.Run.{step-call, run-call, followed, run, performed, reachedAfter, reachedInRun, reached}
-use Rattle.stack_assembly.specs.Host.{machineOf, roomOf, forged}
+use Rattle.stack_assembly.specs.Host.{machineOf, roomOf}
 use Rattle.stack_assembly.specs.Promise.{operandDepth, callDepth, Kept, Called}
 use Rattle.stack_assembly.specs.Refusals.{Single}
 use Rattle.stack_assembly.proofs.Live.{live-length}
-use Rattle.stack_assembly.proofs.Chains.{Unforged, false-unforged}
 use Rattle.stack_assembly.proofs.Refused.{step-refused}
 use Rattle.stack_assembly.proofs.Numbers.{step-made}
 use Rattle.fetch.specs.Codes as exact
@@ -28,10 +27,11 @@ use Rattle.steps.specs.Runs.{storeIn, room, Fits, machineIn, standing, RunMade,
 use Rattle.steps.proofs.Comes.{kept-same}
 use Rattle.steps.proofs.Running.{run-ends}
 use Rattle.script.specs.declared.script.Script.{Script}
-use Rattle.eval.specs.declared.eval.Eval.{Eval}
-use Rattle.eval.specs.Lends.{lent}
+use Rattle.state.specs.declared.state.Eval.{Eval}
+use Rattle.state.specs.Lends.{lent}
+use Rattle.state.proofs.Passed.{Passed, unforged, operators-within, labels-within}
+use Rattle.state.proofs.Singles.{single-called}
 use Rattle.eval.specs.Private.{advancing, storeOf, stateAfter}
-use Rattle.eval.proofs.Singles.{single-called}
 
 -- the machine after a run
 after-run : (r : Ran) (o : ℕ) (script : Script) (text operators labels os cs ms : List ℕ)
@@ -52,32 +52,12 @@ run-stands s r m zero n b z e = absurd (b refl)
 run-stands s r m (suc b) zero p z e = absurd (z refl)
 run-stands s r m (suc b) (suc n) p z {v} {k} {m′} e = run-ends s r m b n v k m′ e
 
--- what is lent passed the test of 25
-pub record Passed (e : Eval) (script : Script) (text operators labels os cs ms : List ℕ) : Type 0 where
-  pub sound : forged (lent e script text operators labels os cs ms) ≡ false
-
-pub passed : {e : Eval} {script : Script} {text operators labels os cs ms : List ℕ} {t : Bool} → t ≡ forged (lent e script text operators labels os cs ms) → t ≡ false
-    → Passed e script text operators labels os cs ms
-passed p q = record { sound = sym p ∙ q }
-
 module _ {e : Eval} {script : Script} {text operators labels os cs ms : List ℕ} (f : Passed e script text operators labels os cs ms) where
-  unforged : Unforged (lent e script text operators labels os cs ms)
-  unforged = false-unforged (lent e script text operators labels os cs ms) (f .sound)
-
-  pub depth-within : e .«operand_depth» ≤ length os
-  depth-within = unforged .operandDepth
-
-  pub operators-within : 4 * script .operators ≤ length operators
-  operators-within = omega (arith, unforged .operators)
-
-  pub labels-within : 3 * script .labels ≤ length labels
-  labels-within = omega (arith, unforged .labels)
-
   fits : Fits (storeOf e) os cs
-  fits = record { operands = unforged .operandDepth; calls = unforged .callDepth }
+  fits = record { operands = unforged f .operandDepth; calls = unforged f .callDepth }
 
   same-script : scriptIn (exact.lent text (take (4 * script .operators) operators) (take (3 * script .labels) labels)) ≡ scriptIn (lent e script text operators labels os cs ms .tables)
-  same-script = lent-script (lent e script text operators labels os cs ms .tables) operators-within labels-within
+  same-script = lent-script (lent e script text operators labels os cs ms .tables) (operators-within f) (labels-within f)
 
   same-machine : e .effect ≡ 0 → machineIn (e .«effect_operator») (storeOf e) os cs ms ≡ machineOf (lent e script text operators labels os cs ms)
   unfolding machineOf
@@ -135,8 +115,8 @@ module _ {e : Eval} {script : Script} {text operators labels os cs ms : List ℕ
         answer = refl;
         machine = refl;
         tables = refl;
-        operandStack = kept-same _ (e .«operand_depth») os (unforged .operandDepth);
-        callStack = kept-same _ (e .«call_depth») cs (unforged .callDepth);
+        operandStack = kept-same _ (e .«operand_depth») os (unforged f .operandDepth);
+        callStack = kept-same _ (e .«call_depth») cs (unforged f .callDepth);
       }))
 
   module _ (z : e .effect ≡ 0 → ⊥) where
@@ -154,7 +134,7 @@ module _ {e : Eval} {script : Script} {text operators labels os cs ms : List ℕ
     unfolding performed
     standing-step =
         single-called Single.step (f .sound) step-stands refl
-        (kept-same _ (e .«operand_depth») os (unforged .operandDepth)) (kept-same _ (e .«call_depth») cs (unforged .callDepth))
+        (kept-same _ (e .«operand_depth») os (unforged f .operandDepth)) (kept-same _ (e .«call_depth») cs (unforged f .callDepth))
 
     pub standing-run : {budget : ℕ} → (budget ≡ 0 → ⊥)
         → Called (run-call budget) (lent e script text operators labels os cs ms) (answer (e .effect) (e .«effect_operator») 1) (lent (advancing e .eval) script text operators labels os cs ms)
@@ -166,8 +146,8 @@ module _ {e : Eval} {script : Script} {text operators labels os cs ms : List ℕ
           answer = sym (ap (λ (d : Done). d .answer) is);
           machine = sym (ap (λ (d : Done). d .machine) is);
           tables = refl;
-          operandStack = kept-same _ (e .«operand_depth») os (unforged .operandDepth);
-          callStack = kept-same _ (e .«call_depth») cs (unforged .callDepth);
+          operandStack = kept-same _ (e .«operand_depth») os (unforged f .operandDepth);
+          callStack = kept-same _ (e .«call_depth») cs (unforged f .callDepth);
         })
 
 -- ---- a run of one step

@@ -1,3 +1,2 @@
--- What the evaluator's contracts cite beside the definition.
-pub mod Lends
+-- What the evaluator's contracts cite beside the definition and the state.
 pub mod Private

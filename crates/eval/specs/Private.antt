@@ -1,19 +1,13 @@
 -- What the private functions ask and promise; no public contract cites it.
 use Prim.Native.Nat.{ℕ, _+_}
 use mathlib.Core.Bool.{cond}
-use mathlib.Core.List.{List}
-use mathlib.Core.Path.{_≡_}
 use lib.Dec.{ltb}
-use lib.ListN.{length, replicate}
 use Rattle.word.specs.Word.{wrap}
 use Rattle.steps.specs.declared.outcome.Store.{Store}
 use Rattle.steps.specs.declared.budget.Ran.{Ran}
-use Rattle.eval.specs.declared.eval.Eval.{Eval}
-use Rattle.eval.specs.declared.eval.Answered.{Answered}
-use Rattle.eval.specs.Lends.{answered}
-
-abbrev pub Zeroed : (before after : List ℕ) → Type 0
-Zeroed before after = after ≡ replicate (length before) 0
+use Rattle.state.specs.declared.state.Eval.{Eval}
+use Rattle.state.specs.declared.state.Answered.{Answered}
+use Rattle.state.specs.Lends.{answered}
 
 -- Where an effect stands, a step answers it and advances next.
 abbrev pub advancing : Eval → Answered

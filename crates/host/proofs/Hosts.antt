@@ -17,10 +17,10 @@ use Rattle.stack_assembly.proofs.Chains.{Unforged, false-unforged}
 use Rattle.operators.proofs.Stacks.{live-top, live-put}
 use Rattle.steps.proofs.Comes.{kept-same, kept-push, kept-less}
 use Rattle.script.specs.declared.script.Script.{Script}
-use Rattle.eval.specs.declared.eval.Eval.{Eval}
-use Rattle.eval.specs.Lends.{lent}
+use Rattle.state.specs.declared.state.Eval.{Eval}
+use Rattle.state.specs.Lends.{lent}
 use Rattle.host.specs.Private.{withDepth, clear}
-use Rattle.eval.proofs.Singles.{single-called}
+use Rattle.state.proofs.Singles.{single-called}
 
 clears : (n : ℕ) (m : Machine) → (n ≡ 0 → ⊥) → cleared n m ≡ done n (m .effectOperator) 0 (withEffect m 0 0)
 unfolding cleared

@@ -1,6 +1,6 @@
 -- What the private functions ask and promise; no public contract cites it.
 use Prim.Native.Nat.{ℕ}
-use Rattle.eval.specs.declared.eval.Eval.{Eval}
+use Rattle.state.specs.declared.state.Eval.{Eval}
 
 -- Another depth of the operand stack.
 abbrev pub withDepth : Eval → (depth : ℕ) → Eval

@@ -1,12 +1,12 @@
 // The standing effect, taken away by the host.
 ghost use Rattle.stack_assembly.specs.Run.{clear-call};
 ghost use Rattle.stack_assembly.specs.Promise.{Called};
-ghost use Rattle.eval.specs.Lends.{lent, answerOf};
-use eval::Answered;
-use eval::Eval;
-use eval::answer;
-use eval::is_forged;
+ghost use Rattle.state.specs.Lends.{lent, answerOf};
 use script::Script;
+use state::Answered;
+use state::Eval;
+use state::answer;
+use state::is_forged;
 
 pub fn clear_effect(
     eval: Eval,

@@ -1,12 +1,12 @@
 // The memory, for the host: read and write.
 ghost use Rattle.stack_assembly.specs.Run.{read-call, write-call};
 ghost use Rattle.stack_assembly.specs.Promise.{Called};
-ghost use Rattle.eval.specs.Lends.{lent, answerOf};
-use eval::Answered;
-use eval::Eval;
-use eval::answer;
-use eval::is_forged;
+ghost use Rattle.state.specs.Lends.{lent, answerOf};
 use script::Script;
+use state::Answered;
+use state::Eval;
+use state::answer;
+use state::is_forged;
 
 pub fn read(
     eval: Eval,

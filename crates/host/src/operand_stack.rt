@@ -3,12 +3,12 @@ ghost use mathlib.Core.Path.{_≡_};
 ghost use Rattle.host.specs.Private.{withDepth};
 ghost use Rattle.stack_assembly.specs.Run.{push-call, pop-call};
 ghost use Rattle.stack_assembly.specs.Promise.{Called};
-ghost use Rattle.eval.specs.Lends.{lent, answerOf};
-use eval::Answered;
-use eval::Eval;
-use eval::answer;
-use eval::is_forged;
+ghost use Rattle.state.specs.Lends.{lent, answerOf};
 use script::Script;
+use state::Answered;
+use state::Eval;
+use state::answer;
+use state::is_forged;
 
 fn with_depth(eval: Eval, depth: usize) -> Eval
     ensures { λ r. ⌜ r ≡ withDepth eval depth ⌝ }

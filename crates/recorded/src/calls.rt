@@ -2,9 +2,9 @@
 ghost use Prim.Native.Nat.{_≤_};
 use crate::parts::after;
 use crate::parts::number;
-use eval::Answered;
-use eval::Eval;
 use script::Script;
+use state::Answered;
+use state::Eval;
 
 pub(crate) struct Outcome {
     pub state: Eval,
@@ -61,7 +61,7 @@ pub(crate) fn played(
 ) -> Outcome
     requires { ⌜ count ≤ 20 ⌝ }
 {
-    let mut state = eval::new(memory);
+    let mut state = state::new(memory);
     let mut agrees = true;
     let mut i = 0;
     while i < count {

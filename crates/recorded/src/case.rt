@@ -8,10 +8,10 @@ use crate::calls;
 use crate::parts::after;
 use crate::parts::first;
 use crate::parts::number;
-use eval::Eval;
 use lists::same;
 use script::Compiled;
 use script::Script;
+use state::Eval;
 
 // How many numbers a case has, and whether the engine answers them.
 pub(crate) struct Compared {

@@ -1,6 +1,6 @@
 // The evaluation, for C: a fresh start, one step, steps up to a budget, and the standing effect taken away.
-use eval::Eval;
 use script::Script;
+use state::Eval;
 ghost use Rattle.stack_assembly.specs.Run.{step-call, run-call, clear-call};
 ghost use Rattle.stack_assembly.specs.Promise.{Starts};
 ghost use Rattle.stack_assembly_c.specs.Boundary.{stateOf, tablesOf, stateIn, CalledFromC};
@@ -9,7 +9,7 @@ ghost use Rattle.stack_assembly_c.specs.Boundary.{stateOf, tablesOf, sta
 pub extern "C" fn stack_assembly_new(memory: &mut [u32], out: &mut [u64; 5])
     ensures { λ _. ⌜ Starts (now (memory .entry)) (record { state = stateIn 0 (now (out .exit)); memory = now (memory .exit) }) ⌝ }
 {
-    let state = eval::new(memory);
+    let state = state::new(memory);
     *out = [
         state.next_operator as u64,
         state.operand_depth as u64,

@@ -1,6 +1,6 @@
 // The memory, for C: read and write.
-use eval::Eval;
 use script::Script;
+use state::Eval;
 ghost use Rattle.stack_assembly.specs.Run.{read-call, write-call};
 ghost use Rattle.stack_assembly_c.specs.Boundary.{stateOf, tablesOf, CalledFromC};
 

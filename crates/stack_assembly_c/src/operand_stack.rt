@@ -1,6 +1,6 @@
 // The operand stack, for C: push and pop.
-use eval::Eval;
 use script::Script;
+use state::Eval;
 ghost use Rattle.stack_assembly.specs.Run.{push-call, pop-call};
 ghost use Rattle.stack_assembly_c.specs.Boundary.{stateOf, tablesOf, CalledFromC};
 

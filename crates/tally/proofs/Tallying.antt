@@ -14,9 +14,9 @@ use Rattle.script.specs.Answers.{compiledAnswer}
 use Rattle.script.specs.declared.script.Script.{Script}
 use Rattle.script.specs.declared.script.Compiled.{Compiled}
 use Rattle.script.specs.declared.script.Compiled.the-variants.{Accepted}
-use Rattle.eval.specs.Lends.{stateOf, lent, answerOf}
-use Rattle.eval.specs.declared.eval.Eval.{Eval}
-use Rattle.eval.specs.declared.eval.Answered.{Answered}
+use Rattle.state.specs.Lends.{stateOf, lent, answerOf}
+use Rattle.state.specs.declared.state.Eval.{Eval}
+use Rattle.state.specs.declared.state.Answered.{Answered}
 use Rattle.tally.specs.Tally.{printed, tally, Tallies}
 use Rattle.tally.specs.Private.{refusedBy}
 

@@ -1,6 +1,6 @@
 -- What the private functions ask and promise; no public contract cites it.
 use Prim.Native.Nat.{ℕ}
-use Rattle.eval.specs.declared.eval.Answered.{Answered}
+use Rattle.state.specs.declared.state.Answered.{Answered}
 
 abbrev pub refusedBy : (number value : ℕ) → Answered
 refusedBy n v =

@@ -10,8 +10,8 @@ use Rattle.stack_assembly.specs.Run.{run-call}
 use Rattle.stack_assembly.specs.Host.{live}
 use Rattle.stack_assembly.specs.Promise.{defined}
 use Rattle.stack_assembly.specs.Evaluator.{Buffers, begun}
-use Rattle.eval.specs.Lends.{answerOf}
-use Rattle.eval.specs.declared.eval.Answered.{Answered}
+use Rattle.state.specs.Lends.{answerOf}
+use Rattle.state.specs.declared.state.Answered.{Answered}
 
 -- The operands have their top first.
 pub record Printed : Type 0 where

@@ -2,9 +2,9 @@
 ghost use mathlib.Core.Path.{_≡_};
 ghost use Rattle.tally.specs.Tally.{Tallies};
 ghost use Rattle.tally.specs.Private.{refusedBy};
-use eval::Answered;
-use eval::Eval;
 use script::Compiled;
+use state::Answered;
+use state::Eval;
 
 const BUDGET: u32 = 1_000_000;
 
@@ -42,7 +42,7 @@ pub(crate) fn tally(
         Compiled::TooManyOperators(n) => refused(23, n),
         Compiled::TooManyLabels(n) => refused(24, n),
         Compiled::Accepted(script) => {
-            let start = eval::new(memory);
+            let start = state::new(memory);
             eval::run(
                 start,
                 script,

@@ -1,5 +1,5 @@
 -- `pop` of src/operand_stack.rt meets its contract.
-use Rattle.eval.proofs.Runs.{passed, depth-within}
+use Rattle.state.proofs.Passed.{passed, depth-within}
 use Prim.Native.Nat.{_-_}
 use mathlib.Core.Path.{refl, sym, _∙_}
 use native.Mathlib.Omega.{arith}

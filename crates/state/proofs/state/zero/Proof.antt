@@ -1,12 +1,12 @@
--- `zero` of src/eval.rt meets its contract; Inv-loop is what holds at each turn of its loop.
+-- `zero` of src/state.rt meets its contract; Inv-loop is what holds at each turn of its loop.
 use Prim.Native.Nat.{_-_, _≤_}
 use mathlib.Core.Path.{_≡_, refl, _∙_}
 use native.Mathlib.Omega.{arith}
 use lib.ListN.{length, take, replicate, length-set}
-use Rattle.eval.proofs.Zeros.{zero-more, zero-all}
+use Rattle.state.proofs.Zeros.{zero-more, zero-all}
 use borrow.Author.Needs.{needs}
-use Rattle.eval.proofs.eval.zero.Statement.{statement}
-use Rattle.eval.proofs.eval.zero.Tie as tie
+use Rattle.state.proofs.state.zero.Statement.{statement}
+use Rattle.state.proofs.state.zero.Tie as tie
 
 abbrev Inv-loop : tie.InvT-loop
 Inv-loop memory₀ i₀ memory i = (length memory ≡ length memory₀) × (i ≤ length memory₀) × (take i memory ≡ replicate i 0)

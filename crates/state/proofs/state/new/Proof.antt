@@ -1,8 +1,8 @@
--- `new` of src/eval.rt meets its contract.
+-- `new` of src/state.rt meets its contract.
 use Rattle.stack_assembly.specs.Host.{fresh}
 use borrow.Author.Needs.{needs}
-use Rattle.eval.proofs.eval.new.Statement.{statement}
-use Rattle.eval.proofs.eval.new.Tie as tie
+use Rattle.state.proofs.state.new.Statement.{statement}
+use Rattle.state.proofs.state.new.Tie as tie
 
 zero-requires : tie.Need-zero-requires
 zero-requires c κs = search needs

@@ -3,8 +3,8 @@ use mathlib.Core.List.{List}
 use Prim.Native.Nat.{ℕ}
 use Rattle.stack_assembly.specs.Answer.{Answer, answer}
 use Rattle.stack_assembly.specs.Host.{State, Lent}
-use Rattle.eval.specs.declared.eval.Eval.{Eval}
-use Rattle.eval.specs.declared.eval.Answered.{Answered}
+use Rattle.state.specs.declared.state.Eval.{Eval}
+use Rattle.state.specs.declared.state.Answered.{Answered}
 use Rattle.script.specs.declared.script.Script.{Script}
 
 abbrev pub stateOf : Eval → State

@@ -1,0 +1,3 @@
+-- What the contracts over a state cite beside the definition.
+pub mod Lends
+pub mod Private
