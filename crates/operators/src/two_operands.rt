@@ -41,23 +41,19 @@ fn compared(place: usize, a: u32, b: u32) -> u32
     order::at_least(a, b)
 }
 
-fn bit_by_bit(place: usize, a: u32, b: u32) -> u32
-    requires { ⌜ (8 ≤ place) × (place < 11) ⌝ }
+fn bitwise(place: usize, a: u32, b: u32) -> u32
+    requires { ⌜ 8 ≤ place ⌝ }
     ensures { λ r. ⌜ r ≡ binaryOf place a b ⌝ }
 {
-    if place == 8 {
-        return bits::bitwise_and(a, b);
+    if place < 11 {
+        if place == 8 {
+            return bits::bitwise_and(a, b);
+        }
+        if place == 9 {
+            return bits::bitwise_or(a, b);
+        }
+        return bits::bitwise_xor(a, b);
     }
-    if place == 9 {
-        return bits::bitwise_or(a, b);
-    }
-    bits::bitwise_xor(a, b)
-}
-
-fn moved(place: usize, a: u32, b: u32) -> u32
-    requires { ⌜ 11 ≤ place ⌝ }
-    ensures { λ r. ⌜ r ≡ binaryOf place a b ⌝ }
-{
     if place == 11 {
         return bits::rotate_left(a, b);
     }
@@ -79,10 +75,7 @@ fn applied(place: usize, a: u32, b: u32) -> u32
     if place < 8 {
         return compared(place, a, b);
     }
-    if place < 11 {
-        return bit_by_bit(place, a, b);
-    }
-    moved(place, a, b)
+    bitwise(place, a, b)
 }
 
 pub fn binary(place: usize, operands: &mut [u32]) -> Stack
