@@ -7,6 +7,7 @@ ghost use mathlib.Core.Path.{_≡_};
 ghost use Prim.Native.Nat.{_≤_, _<_};
 ghost use lib.ListN.{length, getD};
 ghost use Rattle.utf8.specs.Utf8.{front};
+ghost use Rattle.tokens.specs.declared.tokens.Next.the-variants.{Token};
 ghost use Rattle.tokens.specs.Answers.{nextAt};
 ghost use Rattle.tokens.specs.Private.{Flags, Plain, stops, passedOf, Stopped, Between};
 
@@ -135,6 +136,12 @@ fn blank_end(text: &[u8], from: usize) -> usize
     i
 }
 
+fn token(start: usize, end: usize, past: usize) -> Next
+    ensures { λ r. ⌜ r ≡ Token start end past ⌝ }
+{
+    Next::Token { start, end, past }
+}
+
 pub(crate) fn next_token(text: &[u8], from: usize) -> Next
     ensures { λ r. ⌜ r ≡ nextAt (now (text .entry)) from ⌝ }
 {
@@ -151,29 +158,17 @@ pub(crate) fn next_token(text: &[u8], from: usize) -> Next
                 if comment {
                     return Next::End;
                 }
-                return Next::Token {
-                    start: i,
-                    end: text.len(),
-                    past: text.len(),
-                };
+                return token(i, text.len(), text.len());
             }
             Stop::IllFormed(at) => {
                 if comment | (at == i) {
                     return Next::IllFormed(at);
                 }
-                return Next::Token {
-                    start: i,
-                    end: at,
-                    past: at,
-                };
+                return token(i, at, at);
             }
             Stop::Char { at, past } => {
                 if !comment & (i < at) {
-                    return Next::Token {
-                        start: i,
-                        end: at,
-                        past,
-                    };
+                    return token(i, at, past);
                 }
                 i = past;
             }

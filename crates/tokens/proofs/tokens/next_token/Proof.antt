@@ -51,11 +51,15 @@ returns-2 c =
     let at-if1 = at-span .before .before .before in
     answered (seen (c .before .before .before .before .before .before .before)) (end-comment (at-if1 .if1 .left) (begun (c .before .before .before .before)) (rw (c .before .enum-told .given .1) at (at-span .span .ensures)) (c .if3 .taken))
 
+token-requires : tie.Need-token-requires Inv-loop μ-loop
+token-requires c κs = search needs
+
 returns-3 : tie.Need-returns-3 Inv-loop μ-loop
 returns-3 c =
-    let at-span = c .before .before .before in
+    let d = c .before in
+    let at-span = d .before .before .before in
     let at-if1 = at-span .before .before .before in
-    answered (seen (c .before .before .before .before .before .before .before)) (end-token (at-if1 .if1 .left) (begun (c .before .before .before .before)) (rw (c .before .enum-told .given .1) at (at-span .span .ensures)) (c .if3 .left))
+    rw (c .token .ensures) (answered (seen (d .before .before .before .before .before .before .before)) (end-token (at-if1 .if1 .left) (begun (d .before .before .before .before)) (rw (d .before .enum-told .given .1) at (at-span .span .ensures)) (d .if3 .left)))
 
 enum-known-at : tie.Need-enum-known-at Inv-loop μ-loop
 enum-known-at c = search needs
@@ -67,22 +71,30 @@ returns-4 c =
     let at-if1 = at-span .before .before .before in
     answered (seen (c .before .before .before .before .before .before .before .before)) (ill-here (at-if1 .if1 .left) (begun (c .before .before .before .before .before)) (rw (at-at .at .given .1) at (at-span .span .ensures)) (c .if4 .taken))
 
+token-requires-2 : tie.Need-token-requires-2 Inv-loop μ-loop
+token-requires-2 c κs = search needs
+
 returns-5 : tie.Need-returns-5 Inv-loop μ-loop
 returns-5 c =
-    let at-at = c .before .before in
+    let d = c .before in
+    let at-at = d .before .before in
     let at-span = at-at .before .before in
     let at-if1 = at-span .before .before .before in
-    answered (seen (c .before .before .before .before .before .before .before .before)) (ill-token (at-if1 .if1 .left) (begun (c .before .before .before .before .before)) (rw (at-at .at .given .1) at (at-span .span .ensures)) (c .if4 .left))
+    rw (c .token2 .ensures) (answered (seen (d .before .before .before .before .before .before .before .before)) (ill-token (at-if1 .if1 .left) (begun (d .before .before .before .before .before)) (rw (at-at .at .given .1) at (at-span .span .ensures)) (d .if4 .left)))
 
 enum-known-at-2 : tie.Need-enum-known-at-2 Inv-loop μ-loop
 enum-known-at-2 c = search needs
 
+token-requires-3 : tie.Need-token-requires-3 Inv-loop μ-loop
+token-requires-3 c κs = search needs
+
 returns-6 : tie.Need-returns-6 Inv-loop μ-loop
 returns-6 c =
-    let at-at2 = c .before .before in
+    let d = c .before in
+    let at-at2 = d .before .before in
     let at-span = at-at2 .before .before in
     let at-if1 = at-span .before .before .before in
-    answered (seen (c .before .before .before .before .before .before .before .before)) (char-token (at-if1 .if1 .left) (begun (c .before .before .before .before .before)) (rw (at-at2 .at2 .given .1) at (at-span .span .ensures)) (c .if5 .taken))
+    rw (c .token3 .ensures) (answered (seen (d .before .before .before .before .before .before .before .before)) (char-token (at-if1 .if1 .left) (begun (d .before .before .before .before .before)) (rw (at-at2 .at2 .given .1) at (at-span .span .ensures)) (d .if5 .taken)))
 
 loop-less : tie.Need-loop-less Inv-loop μ-loop
 loop-less c =
@@ -113,11 +125,14 @@ next-token-spec =
     span-requires
     enum-told
     returns-2
+    token-requires
     returns-3
     enum-known-at
     returns-4
+    token-requires-2
     returns-5
     enum-known-at-2
+    token-requires-3
     returns-6
     loop-less
     loop-again)
