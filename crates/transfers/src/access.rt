@@ -14,7 +14,7 @@ fn read(operands: &mut [u32], memory: &[u32]) -> Stack
     let depth = operands.len();
     if depth == 0 {
         return Stack {
-            depth: 0,
+            depth,
             effect: OPERAND_STACK_UNDERFLOW,
         };
     }

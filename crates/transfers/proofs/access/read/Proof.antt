@@ -14,7 +14,7 @@ use Rattle.transfers.proofs.access.read.Tie as tie
 
 returns : tie.Need-returns
 unfolding evaluated
-returns c room m is memory = memory-kept m (underflow 1 m (λ us. readAt (getD us 0 0)) _ is (omega arith)) memory
+returns c room m is memory = rw (c .if1 .taken) (memory-kept m (underflow 1 m (λ us. readAt (getD us 0 0)) _ is (omega arith)) memory)
 
 sub-address : tie.Need-sub-address
 sub-address c = search needs
