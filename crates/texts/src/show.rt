@@ -1,31 +1,5 @@
 // What compile makes of a text: its answer, the records, and the source of each operator.
-use print::least;
 use script::Compiled;
-use script::Script;
-
-fn operator_records(script: Script, text: &[u8], operators: &[u32]) {
-    let count = least(script.operators, least(operators.len() / 4, 65535));
-    let mut i: u32 = 0;
-    while (i as usize) < count {
-        let at = (i as usize) * 4;
-        print::bytes(b"operator");
-        print::words(&operators[at..at + 4]);
-        print::bytes(b" ");
-        print::quoted(sources::map_operator_to_source(script, text, operators, i));
-        i += 1;
-    }
-}
-
-fn label_records(script: Script, labels: &[u32]) {
-    let count = least(script.labels, labels.len() / 3);
-    let mut i = 0;
-    while i < count {
-        print::bytes(b"label");
-        print::words(&labels[i * 3..i * 3 + 3]);
-        print::bytes(b"\n");
-        i += 1;
-    }
-}
 
 fn refusal(number: usize, value: usize) {
     print::bytes(b"refused");
@@ -45,8 +19,8 @@ pub(crate) fn compiled(text: &[u8], operators: &mut [u32], labels: &mut [u32]) {
             print::number(script.operators);
             print::number(script.labels);
             print::bytes(b"\n");
-            operator_records(script, text, operators);
-            label_records(script, labels);
+            listing::operators(script, text, operators);
+            listing::labels(script, text, labels);
         }
     }
 }

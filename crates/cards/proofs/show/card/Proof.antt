@@ -52,17 +52,17 @@ enum-known-script c = search needs
 answer-requires-5 : tie.Need-answer-requires-5
 answer-requires-5 c κs = search needs
 
-slice-aggregate-operator-records : tie.Need-slice-aggregate-operator-records
-slice-aggregate-operator-records c = search needs
+slice-aggregate-operators : tie.Need-slice-aggregate-operators
+slice-aggregate-operators c = search needs
 
-operator-records-requires : tie.Need-operator-records-requires
-operator-records-requires c κs = search needs
+operators-requires : tie.Need-operators-requires
+operators-requires c κs = search needs
 
-slice-aggregate-label-records : tie.Need-slice-aggregate-label-records
-slice-aggregate-label-records c = search needs
+slice-aggregate-labels : tie.Need-slice-aggregate-labels
+slice-aggregate-labels c = search needs
 
-label-records-requires : tie.Need-label-records-requires
-label-records-requires c κs = search needs
+labels-requires : tie.Need-labels-requires
+labels-requires c κs = search needs
 
 slice-aggregate-print-all : tie.Need-slice-aggregate-print-all
 slice-aggregate-print-all c = search needs
@@ -119,10 +119,10 @@ card-spec =
     answer-requires-4
     enum-known-script
     answer-requires-5
-    slice-aggregate-operator-records
-    operator-records-requires
-    slice-aggregate-label-records
-    label-records-requires
+    slice-aggregate-operators
+    operators-requires
+    slice-aggregate-labels
+    labels-requires
     slice-aggregate-print-all
     slice-aggregate-print-all-2
     array-borrow-prefix-os
