@@ -1,6 +1,6 @@
 -- `three` of src/chars.rt meets its contract.
-use mathlib.Core.Bool.{true, false, _&&_}
-use mathlib.Core.Path.{_≡_, _∙_}
+use mathlib.Core.Bool.{_&&_}
+use mathlib.Core.Path.{_≡_, sym, _∙_}
 use borrow.Author.Needs.{needs}
 use Rattle.base.specs.Ranges.{within}
 use Rattle.utf8.specs.Answers.{charOf}
@@ -36,13 +36,22 @@ within-requires c κs = search needs
 within-requires-2 : tie.Need-within-requires-2
 within-requires-2 c κs = search needs
 
+-- what the code tests is whether both bytes are in their ranges
+tested : (c : tie.After-within2)
+    → let at-wide2 = c .before .before .before .before in
+    let a = at-wide2 .before .before .before .before .before .before .args .a in
+    (c .before .within .result && c .within2 .result)
+    ≡ (within (lowAfter a) (highAfter a) (at-wide2 .before .before .wide .result) && within 0x80 0xBF (at-wide2 .wide2 .result))
+tested c = rw (c .within2 .ensures, c .before .within .ensures, c .before .before .second-high .ensures, c .before .before .before .second-low .ensures)
+
 returns-2 : tie.Need-returns-2
 returns-2 c =
-    let at-wide2 = c .before .before .before .before .before .before in
+    let at-within2 = c .before .before in
+    let at-wide2 = at-within2 .before .before .before .before in
     let at-wide = at-wide2 .before .before in
     let at-if1 = at-wide .before .before in
     let start = at-if1 .before .before in
-    other-three _ _ (start .pre) (at-wide .wide .ensures) (at-wide2 .wide2 .ensures) (at-if1 .if1 .left) (cc) (c .if3 .taken)
+    other-three _ _ (start .pre) (at-wide .wide .ensures) (at-wide2 .wide2 .ensures) (at-if1 .if1 .left) (sym (tested at-within2) ∙ c .before .if2 .taken) (c .if3 .taken)
 
 sub-char-of : tie.Need-sub-char-of
 sub-char-of c = search needs
@@ -64,20 +73,22 @@ char-of-requires c κs = search needs
 
 returns-3 : tie.Need-returns-3
 returns-3 c =
-    let at-wide2 = c .before .before .before .before .before .before .before in
+    let at-within2 = c .before .before .before in
+    let at-wide2 = at-within2 .before .before .before .before in
     let at-wide = at-wide2 .before .before in
     let at-if1 = at-wide .before .before in
     let start = at-if1 .before .before in
-    let e : (within (lowAfter (start .args .a)) (highAfter (start .args .a)) (at-wide .wide .result) && within 0x80 0xBF (at-wide2 .wide2 .result)) ≡ true = cc in c .char-of .ensures ∙ rw (at-three _ _ (start .pre) (at-wide .wide .ensures) (at-wide2 .wide2 .ensures) (at-if1 .if1 .left), e)
+    c .char-of .ensures ∙ rw (at-three _ _ (start .pre) (at-wide .wide .ensures) (at-wide2 .wide2 .ensures) (at-if1 .if1 .left), ← tested at-within2, c .before .before .if2 .taken)
 
 returns-4 : tie.Need-returns-4
 unfolding charOf
 returns-4 c =
-    let at-wide2 = c .before .before .before .before .before in
+    let at-within2 = c .before in
+    let at-wide2 = at-within2 .before .before .before .before in
     let at-wide = at-wide2 .before .before in
     let at-if1 = at-wide .before .before in
     let start = at-if1 .before .before in
-    let e : (within (lowAfter (start .args .a)) (highAfter (start .args .a)) (at-wide .wide .result) && within 0x80 0xBF (at-wide2 .wide2 .result)) ≡ false = cc in rw (at-three _ _ (start .pre) (at-wide .wide .ensures) (at-wide2 .wide2 .ensures) (at-if1 .if1 .left), e)
+    rw (at-three _ _ (start .pre) (at-wide .wide .ensures) (at-wide2 .wide2 .ensures) (at-if1 .if1 .left), ← tested at-within2, c .if2 .left)
 
 pub three-spec : {M : Type 1} → statement M
 three-spec =
