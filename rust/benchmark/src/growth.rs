@@ -1,6 +1,7 @@
-//! What grows with what: compile by text, a step by script, buffers and labels.
+//! What grows with what: compile by text, a step by script, buffers and labels, a card by how often its operators are met.
 
-use crate::inputs::{labels, mixed_text, straight};
+use crate::inputs::{differentials, labels, mixed_text, straight};
+use crate::rows::BLOCK;
 use crate::sides::{Engine, Rust};
 use std::hint::black_box;
 use std::time::Instant;
@@ -18,13 +19,36 @@ fn best(rounds: u32, units: u64, mut work: impl FnMut()) -> f64 {
 fn run_ns(rounds: u32, text: &str, words: usize) -> (f64, f64) {
     let (mut rust, mut engine) = (Rust::new(text), Engine::with_words(text, words));
     let (_, steps) = engine.run();
-    let rust_ns = best(rounds, steps, || {
-        rust.rewind();
-        black_box(rust.run());
+    let times = BLOCK.div_ceil(steps);
+    let rust_ns = best(rounds, times * steps, || {
+        for _ in 0..times {
+            rust.rewind();
+            black_box(rust.run());
+        }
     });
-    let engine_ns = best(rounds, steps, || {
-        engine.rewind();
-        black_box(engine.run());
+    let engine_ns = best(rounds, times * steps, || {
+        for _ in 0..times {
+            engine.rewind();
+            black_box(engine.run());
+        }
+    });
+    (rust_ns, engine_ns)
+}
+
+fn card_ns(rounds: u32, text: &str) -> (f64, f64) {
+    let (mut rust, mut engine) = (Rust::new(text), Engine::new(text));
+    let times = BLOCK.div_ceil(engine.run().1);
+    let rust_ns = best(rounds, times, || {
+        for _ in 0..times {
+            rust.fresh();
+            black_box(rust.run());
+        }
+    });
+    let engine_ns = best(rounds, times, || {
+        for _ in 0..times {
+            engine.fresh();
+            black_box(engine.run());
+        }
     });
     (rust_ns, engine_ns)
 }
@@ -63,5 +87,9 @@ pub fn print(rounds: u32) {
     for count in [20, 50, 100, 300, 1_000] {
         let (rust, engine) = run_ns(rounds, &straight(count).text, 1024);
         println!("| {count} | {rust:.2} | {engine:.2} |");
+    }    heading("A card by how often its operators are met: two figures of differential.stack, worked out so many times", "times", "card");
+    for times in [1, 2, 3, 5, 9] {
+        let (rust, engine) = card_ns(rounds, &differentials(times));
+        println!("| {times} | {rust:.0} | {engine:.0} |");
     }
 }

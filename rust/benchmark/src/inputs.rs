@@ -123,9 +123,20 @@ pub fn cards() -> Vec<Run> {
     [20, 50, 100, 300].map(straight).into_iter().chain(examples()).collect()
 }
 
+fn example(name: &str) -> String {
+    let file = format!("{}/../../examples/{name}.stack", env!("CARGO_MANIFEST_DIR"));
+    std::fs::read_to_string(file).expect("the example is there")
+}
+
 fn examples() -> Vec<Run> {
-    let folder = concat!(env!("CARGO_MANIFEST_DIR"), "/../../examples");
     let names = ["differential", "best_of", "stableford"];
-    let read = |name: &str| std::fs::read_to_string(format!("{folder}/{name}.stack")).expect("the example is there");
-    names.iter().map(|name| run(format!("examples/{name}.stack"), read(name))).collect()
+    names.iter().map(|name| run(format!("examples/{name}.stack"), example(name))).collect()
+}
+
+/// Two figures of an example, worked out so many times in one run; with no more operators than a run of few remembers.
+pub fn differentials(times: u32) -> String {
+    let text = example("differential");
+    let (figures, definitions) = text.split_once("\nreturn\n").expect("the figures end there");
+    let two: Vec<&str> = figures.lines().filter(|line| line.contains("@differential call")).take(2).collect();
+    format!("{} return\n{definitions}", repeated(times, &format!("{}\n0 drop 0 drop", two.join("\n"))))
 }

@@ -21,7 +21,7 @@ pub enum Unit {
 }
 
 /// How many units a timed block has at least, so that reading the clock costs nothing.
-const BLOCK: u64 = 20_000;
+pub const BLOCK: u64 = 20_000;
 
 pub fn rows() -> Vec<Row> {
     let mut rows: Vec<Row> = inputs::texts().into_iter().map(|texts| compile_row(texts, Engine::new)).collect();
