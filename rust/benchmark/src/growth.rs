@@ -88,7 +88,11 @@ pub fn print(rounds: u32) {
         let (rust, engine) = run_ns(rounds, &straight(count).text, 1024);
         println!("| {count} | {rust:.2} | {engine:.2} |");
     }
-    heading("A card by how often its operators are met: two figures of differential.stack, worked out so many times", "times", "card");
+    heading(
+        "A card by how often its operators are met: two figures of differential.stack, worked out so many times",
+        "times",
+        "card",
+    );
     for times in [1, 2, 3, 5, 9] {
         let (rust, engine) = card_ns(rounds, &differentials(times));
         println!("| {times} | {rust:.0} | {engine:.0} |");
