@@ -3,6 +3,7 @@
 pub mod Answer
 pub mod Script
 pub mod Words
+pub mod Table
 pub mod Machine
 pub mod Operators
 pub mod Step
