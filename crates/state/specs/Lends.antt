@@ -7,6 +7,7 @@ use Rattle.state.specs.declared.state.Eval.{Eval}
 use Rattle.state.specs.declared.state.Answered.{Answered}
 use Rattle.script.specs.declared.script.Script.{Script}
 
+-- The five numbers of the state.
 abbrev pub stateOf : Eval → State
 stateOf e =
     record {
@@ -17,6 +18,7 @@ stateOf e =
       effectOperator = e .«effect_operator»;
     }
 
+-- All that each of the seven calls is lent.
 abbrev pub lent : Eval → Script → (text operators labels operandStack callStack memory : List ℕ) → Lent
 lent e s text operators labels os cs ms =
     record {
@@ -27,6 +29,7 @@ lent e s text operators labels os cs ms =
       memory = ms;
     }
 
+-- An answer's three parts.
 abbrev pub answerOf : Answered → Answer
 answerOf r = answer (r .number) (r .value) (r .steps)
 

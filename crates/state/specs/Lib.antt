@@ -1,3 +1,2 @@
 -- What the contracts over a state cite beside the definition.
 pub mod Lends
-pub mod Private

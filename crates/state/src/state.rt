@@ -1,9 +1,9 @@
 // The state, a fresh one, what a call answers with it, and the test of 25.
 ghost use mathlib.Core.Path.{_≡_};
+ghost use lib.ListN.{length, replicate};
 ghost use Rattle.stack_assembly.specs.Host.{forged};
 ghost use Rattle.stack_assembly.specs.Promise.{Starts};
 ghost use Rattle.state.specs.Lends.{stateOf, lent, answered};
-ghost use Rattle.state.specs.Private.{Zeroed};
 use script::Script;
 
 // The next operator's index, the depths of both stacks, and the standing effect, 0 for none, with its operator.
@@ -24,7 +24,7 @@ pub struct Answered {
 }
 
 fn zero(memory: &mut [u32])
-    ensures { λ _. ⌜ Zeroed (now (memory .entry)) (now (memory .exit)) ⌝ }
+    ensures { λ _. ⌜ now (memory .exit) ≡ replicate (length (now (memory .entry))) 0 ⌝ }
 {
     let mut i = 0;
     while i < memory.len() {
