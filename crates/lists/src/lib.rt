@@ -1,19 +1,8 @@
-// Whether two lists of words are the same: by this the program recorded compares.
-ghost use mathlib.Core.Path.{_≡_};
-ghost use Rattle.lists.specs.Tells.{Tells};
+// Lists of words, for the program recorded: their numbers and parts, and whether two are the same.
+mod comparison;
+mod parts;
 
-pub fn same(a: &[u32], b: &[u32]) -> bool
-    ensures { λ r. ⌜ Tells r (now (a .entry) ≡ now (b .entry)) ⌝ }
-{
-    if a.len() != b.len() {
-        return false;
-    }
-    let mut i = 0;
-    while i < a.len() {
-        if a[i] != b[i] {
-            return false;
-        }
-        i += 1;
-    }
-    true
-}
+pub use comparison::same;
+pub use parts::after;
+pub use parts::first;
+pub use parts::number;

@@ -1,12 +1,11 @@
 -- Sizes that pass the test fit, and a front of a buffer is as long as it should be.
 use Prim.Native.Nat.{ℕ, _≤_}
 use mathlib.Core.Bool.{true, _&&_}
-use mathlib.Core.List.{List}
-use mathlib.Core.Path.{_≡_, sym, _∙_}
-use native.Mathlib.Nat.{min-eq-left}
+use mathlib.Core.Path.{_≡_, sym}
 use borrow.Author.Tests.{leb-true}
 use lib.Dec.{leb}
-use lib.ListN.{length, take, replicate, length-take, length-replicate}
+use lib.ListN.{length, take, replicate, length-replicate}
+use lib.Seq.{length-take-le}
 use Rattle.base.proofs.Tests.{both}
 use Rattle.recorded.specs.Private.{Fit}
 use Rattle.recorded.specs.declared.case.Sizes.{Sizes}
@@ -33,8 +32,5 @@ fits s e =
       callDepth = leb-true _ _ (a .1);
     }
 
-pub front : (n : ℕ) (l : List ℕ) → n ≤ length l → n ≡ length (take n l)
-front n l h = sym (length-take n l ∙ min-eq-left h)
-
 pub filled : (size word : ℕ) {n : ℕ} → n ≤ size → n ≡ length (take n (replicate size word))
-filled size word {n} h = front n (replicate size word) (rw length-replicate h)
+filled size word {n} h = sym (length-take-le n (replicate size word) (rw length-replicate h))

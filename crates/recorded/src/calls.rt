@@ -1,7 +1,7 @@
 // The calls of a case: each is made, and its answer compared with the Rust's.
 ghost use Prim.Native.Nat.{_≤_};
-use crate::parts::after;
-use crate::parts::number;
+use lists::after;
+use lists::number;
 use script::Script;
 use state::Answered;
 use state::Eval;

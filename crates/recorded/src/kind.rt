@@ -4,7 +4,7 @@ ghost use lib.ListN.{length};
 ghost use Rattle.recorded.specs.Private.{Counted};
 use crate::case;
 use crate::numbers;
-use crate::parts::after;
+use lists::after;
 use print::bytes;
 use print::decimal;
 

@@ -3,7 +3,6 @@ mod calls;
 mod case;
 mod kind;
 mod numbers;
-mod parts;
 
 use kind::Tally;
 ghost use Prim.Native.Nat.{_+_, _*_};

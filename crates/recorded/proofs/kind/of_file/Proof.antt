@@ -1,8 +1,9 @@
 -- `of_file` of src/kind.rt meets its contract.
+use mathlib.Core.Path.{sym}
 use native.Mathlib.Omega.{arith}
 use borrow.Author.Needs.{needs}
 use lib.ListN.{length-take}
-use Rattle.recorded.proofs.Fits.{front}
+use lib.Seq.{length-take-le}
 use Rattle.recorded.proofs.kind.of_file.Statement.{statement}
 use Rattle.recorded.proofs.kind.of_file.Tie as tie
 
@@ -34,7 +35,7 @@ array-share-prefix-list : tie.Need-array-share-prefix-list
 array-share-prefix-list c = search needs
 
 slice-aggregate-of-list : tie.Need-slice-aggregate-of-list
-slice-aggregate-of-list c = front (c .before .before .decoded .result) (c .before .before .decoded .last .1 .0) (search needs)
+slice-aggregate-of-list c = sym (length-take-le (c .before .before .decoded .result) (c .before .before .decoded .last .1 .0) (search needs))
 
 of-list-requires : tie.Need-of-list-requires
 of-list-requires c κs = omega (arith, length-take (c .before .before .decoded .result) (c .before .before .decoded .last .1 .0))

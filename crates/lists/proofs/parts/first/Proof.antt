@@ -2,16 +2,15 @@
 use mathlib.Core.Path.{sym}
 use native.Mathlib.Omega.{arith}
 use borrow.Author.Needs.{needs}
-use lib.Seq.{take-all}
-use Rattle.recorded.proofs.Fits.{front}
-use Rattle.recorded.proofs.parts.first.Statement.{statement}
-use Rattle.recorded.proofs.parts.first.Tie as tie
+use lib.Seq.{take-all, length-take-le}
+use Rattle.lists.proofs.parts.first.Statement.{statement}
+use Rattle.lists.proofs.parts.first.Tie as tie
 
 returns : tie.Need-returns
 returns c = sym (take-all (c .before .args .count) (c .before .args .list .now) (omega arith))
 
 slice-aggregate-result : tie.Need-slice-aggregate-result
-slice-aggregate-result c = front (c .before .before .args .count) (c .before .before .args .list .now) (omega arith)
+slice-aggregate-result c = sym (length-take-le (c .before .before .args .count) (c .before .before .args .list .now) (omega arith))
 
 returns-2 : tie.Need-returns-2
 returns-2 c = search needs

@@ -5,8 +5,8 @@ use native.Mathlib.Omega.{arith}
 use borrow.Author.Needs.{needs}
 use lib.ListN.{length, drop-of-length-le}
 use Rattle.base.proofs.Parts.{to-the-end}
-use Rattle.recorded.proofs.parts.after.Statement.{statement}
-use Rattle.recorded.proofs.parts.after.Tie as tie
+use Rattle.lists.proofs.parts.after.Statement.{statement}
+use Rattle.lists.proofs.parts.after.Tie as tie
 
 slice-aggregate-result : tie.Need-slice-aggregate-result
 slice-aggregate-result c = search needs

@@ -3,8 +3,8 @@ use mathlib.Core.Path.{sym}
 use native.Mathlib.Omega.{arith}
 use borrow.Author.Needs.{needs}
 use lib.ListN.{List·getD-eq-default}
-use Rattle.recorded.proofs.parts.number.Statement.{statement}
-use Rattle.recorded.proofs.parts.number.Tie as tie
+use Rattle.lists.proofs.parts.number.Statement.{statement}
+use Rattle.lists.proofs.parts.number.Tie as tie
 
 mul-result : tie.Need-mul-result
 mul-result c = search needs

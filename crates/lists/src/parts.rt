@@ -2,7 +2,7 @@
 ghost use mathlib.Core.Path.{_≡_};
 ghost use lib.ListN.{getD, take, drop};
 
-pub(crate) fn number(list: &[u32], at: usize) -> u32
+pub fn number(list: &[u32], at: usize) -> u32
     ensures { λ r. ⌜ r ≡ getD (now (list .entry)) at 0 ⌝ }
 {
     if at < list.len() {
@@ -11,7 +11,7 @@ pub(crate) fn number(list: &[u32], at: usize) -> u32
     0
 }
 
-pub(crate) fn first(list: &[u32], count: usize) -> &[u32]
+pub fn first(list: &[u32], count: usize) -> &[u32]
     ensures { λ r. ⌜ now r ≡ take count (now (list .entry)) ⌝ }
 {
     if list.len() < count {
@@ -20,7 +20,7 @@ pub(crate) fn first(list: &[u32], count: usize) -> &[u32]
     &list[..count]
 }
 
-pub(crate) fn after(list: &[u32], count: usize) -> &[u32]
+pub fn after(list: &[u32], count: usize) -> &[u32]
     ensures { λ r. ⌜ now r ≡ drop count (now (list .entry)) ⌝ }
 {
     if list.len() < count {

@@ -1,4 +1,4 @@
--- `same` of src/lib.rt meets its contract; Inv-loop is what holds at each turn of its loop.
+-- `same` of src/comparison.rt meets its contract; Inv-loop is what holds at each turn of its loop.
 use Prim.Native.Nat.{ℕ, _-_, _≤_, _<_}
 use mathlib.Core.List.{List}
 use mathlib.Core.Path.{_≡_, ap}
@@ -8,8 +8,8 @@ use borrow.Author.Needs.{needs}
 use lib.Seq.{ext-getD}
 use lib.ListN.{length, getD}
 use Rattle.lists.proofs.Telling.{differ, agree}
-use Rattle.lists.proofs.same.Statement.{statement}
-use Rattle.lists.proofs.same.Tie as tie
+use Rattle.lists.proofs.comparison.same.Statement.{statement}
+use Rattle.lists.proofs.comparison.same.Tie as tie
 
 abbrev Inv-loop : tie.InvT-loop
 Inv-loop a b i₀ i = (i ≤ length a) × (length a ≡ length b) × ((k : ℕ) → k < i → getD a k 0 ≡ getD b k 0)
