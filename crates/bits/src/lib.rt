@@ -1,4 +1,6 @@
 // The bits of words: bit by bit, counts, rotations and shifts, by the definitions of the crate word.
+#![tactic(auto)]
+
 mod bits;
 mod shifts;
 

@@ -1,4 +1,6 @@
 // What a step reads of a script: the next operator.
+#![tactic(auto)]
+
 mod codes;
 mod operators;
 mod references;

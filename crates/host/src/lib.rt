@@ -1,4 +1,6 @@
 // What a host does to a state between its runs, and the call stack by place.
+#![tactic(auto)]
+
 mod effect;
 mod entries;
 mod memory;

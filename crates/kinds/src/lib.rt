@@ -1,4 +1,6 @@
 // What Rust's `from_str_radix` gave, and what a token is.
+#![tactic(auto)]
+
 mod kinds;
 mod numbers;
 

@@ -1,4 +1,6 @@
 // A script's records, printed by the programs that test: each operator's with its source, each label's with its name.
+#![tactic(auto)]
+
 use print::least;
 use script::Script;
 

@@ -1,4 +1,6 @@
 // Lists of words, for the program recorded: their numbers and parts, and whether two are the same.
+#![tactic(auto)]
+
 mod comparison;
 mod parts;
 

@@ -1,4 +1,6 @@
 // What Rust's `==` of two `str` gave, eight bytes at a time.
+#![tactic(auto)]
+
 mod names;
 mod packed;
 

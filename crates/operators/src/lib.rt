@@ -1,4 +1,6 @@
 // What each word that works on the operand stack alone does to it, on exactly the live words.
+#![tactic(auto)]
+
 mod effect;
 mod operand_stack;
 mod two_operands;

@@ -1,4 +1,6 @@
 // What the programs print, on standard output.
+#![tactic(auto)]
+
 ghost use Rattle.std.specs.Prelude.{◌≡◌, min};
 
 use libc::STDOUT_FILENO;

@@ -1,4 +1,6 @@
 // Plays a fixed list of the Rust's answers through the engine's calls; what it prints is held to the file `stdout`.
+#![tactic(auto)]
+
 mod calls;
 mod case;
 mod kind;

@@ -1,4 +1,6 @@
 // `Script::compile`, on lent tables.
+#![tactic(auto)]
+
 mod records;
 mod script;
 

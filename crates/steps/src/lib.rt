@@ -1,4 +1,6 @@
 // Steps: what the operators do to the state and its buffers, one after the other.
+#![tactic(auto)]
+
 mod budget;
 mod calls;
 mod evaluated;

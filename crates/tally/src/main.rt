@@ -1,4 +1,6 @@
 // The program tally: the script on standard input, run once; prints the answer, then each operand from the bottom up.
+#![tactic(auto)]
+
 mod printed;
 mod tallied;
 

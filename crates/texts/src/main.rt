@@ -1,4 +1,6 @@
 // Texts at the edges of the rules, through compile; what it prints is held to the file `stdout`.
+#![tactic(auto)]
+
 mod cards;
 mod characters;
 mod limits;

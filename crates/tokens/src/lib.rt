@@ -1,4 +1,6 @@
 // What `Script::compile` does with `char_indices`: the tokens of a text.
+#![tactic(auto)]
+
 mod reader;
 mod tokens;
 

@@ -1,4 +1,6 @@
 // What each word that reads or writes the memory or sets next does, on exactly the live words.
+#![tactic(auto)]
+
 mod access;
 mod effect;
 mod jumps;

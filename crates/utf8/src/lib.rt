@@ -1,4 +1,6 @@
 // What Rust's `str` and `char` gave: characters, and which of them are white space.
+#![tactic(auto)]
+
 mod chars;
 mod texts;
 mod white_space;
