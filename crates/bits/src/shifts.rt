@@ -13,6 +13,7 @@ pub fn rotate_left(a: u32, b: u32) -> u32
 }
 
 // To the right by b is to the left by -b.
+#[tactic(auto, using(crate::proofs::Digits::right_as_left))]
 pub fn rotate_right(a: u32, b: u32) -> u32
     ensures { result ≡ rotated_right a b }
 {
@@ -26,6 +27,7 @@ pub fn shift_left(a: u32, b: u32) -> u32
 }
 
 // A negative word is shifted with its bits inverted, so that copies of the sign enter.
+#[tactic(auto, unfolding(word::specs::Word::shifted_right))]
 pub fn shift_right(a: u32, b: u32) -> u32
     ensures { result ≡ shifted_right a b }
 {

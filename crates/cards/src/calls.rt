@@ -1,6 +1,7 @@
 // The calls of a host, each a row: which call it is, and its operands. os, cs and ms are the operand stack, the call stack and the memory.
 use script::Script;
 use state::{Answered, Eval};
+use std::io;
 
 pub(crate) fn step() -> [u32; 3] {
     [0, 0, 0]
@@ -35,45 +36,46 @@ pub(crate) fn entry(place: u32) -> [u32; 3] {
     [7, place, 0]
 }
 
-fn with_operand(name: &[u8], operand: u32) {
-    print::bytes(name);
-    print::number(operand as usize);
+fn with_operand(rt: &impl Print, name: &[u8], operand: u32) -> io::Result<()> {
+    print::bytes(rt, name)?;
+    print::number(rt, operand as usize)
 }
 
-fn print_call(row: [u32; 3]) {
+fn print_call(rt: &impl Print, row: [u32; 3]) -> io::Result<()> {
     let x = row[1];
     let y = row[2];
     match row[0] {
-        0 => print::bytes(b"step"),
-        1 => with_operand(b"run", x),
-        2 => print::bytes(b"clear"),
-        3 => with_operand(b"push", x),
-        4 => print::bytes(b"pop"),
-        5 => with_operand(b"read", x),
+        0 => print::bytes(rt, b"step"),
+        1 => with_operand(rt, b"run", x),
+        2 => print::bytes(rt, b"clear"),
+        3 => with_operand(rt, b"push", x),
+        4 => print::bytes(rt, b"pop"),
+        5 => with_operand(rt, b"read", x),
         6 => {
-            with_operand(b"write", x);
-            print::number(y as usize);
+            with_operand(rt, b"write", x)?;
+            print::number(rt, y as usize)
         }
-        _ => with_operand(b"entry", x),
+        _ => with_operand(rt, b"entry", x),
     }
 }
 
 // With a space before it.
-fn signed(word: u32) {
-    print::bytes(b" ");
-    print::signed(word);
+fn signed(rt: &impl Print, word: u32) -> io::Result<()> {
+    print::bytes(rt, b" ")?;
+    print::signed(rt, word)
 }
 
 // A stack's depth, and its words from the bottom to the top.
-fn stack(depth: usize, buffer: &[u32]) {
+fn stack(rt: &impl Print, depth: usize, buffer: &[u32]) -> io::Result<()> {
     let count = print::least(depth, buffer.len());
-    print::number(depth);
-    print::bytes(b":");
+    print::number(rt, depth)?;
+    print::bytes(rt, b":")?;
     let mut i = 0;
     while i < count {
-        signed(buffer[i]);
+        signed(rt, buffer[i])?;
         i += 1;
     }
+    Ok(())
 }
 
 fn entry_at(state: Eval, cs: &[u32], place: u32) -> Answered {
@@ -111,23 +113,24 @@ fn made(
     }
 }
 
-fn print_answer(answered: Answered, os: &[u32], cs: &[u32]) {
+fn print_answer(rt: &impl Print, answered: Answered, os: &[u32], cs: &[u32]) -> io::Result<()> {
     let state = answered.eval;
-    print::bytes(b":");
-    print::number(answered.number as usize);
-    print::number(answered.value);
-    print::number(answered.steps as usize);
-    print::bytes(b", next");
-    print::number(state.next_operator as usize);
-    print::bytes(b", operands");
-    stack(state.operand_depth, os);
-    print::bytes(b", calls");
-    stack(state.call_depth, cs);
-    print::bytes(b"\n");
+    print::bytes(rt, b":")?;
+    print::number(rt, answered.number as usize)?;
+    print::number(rt, answered.value)?;
+    print::number(rt, answered.steps as usize)?;
+    print::bytes(rt, b", next")?;
+    print::number(rt, state.next_operator as usize)?;
+    print::bytes(rt, b", operands")?;
+    stack(rt, state.operand_depth, os)?;
+    print::bytes(rt, b", calls")?;
+    stack(rt, state.call_depth, cs)?;
+    print::bytes(rt, b"\n")
 }
 
 // The call with its operands, its answer, and next and both stacks as it leaves them.
 fn print_made(
+    rt: &impl Print,
     row: [u32; 3],
     state: Eval,
     script: Script,
@@ -137,15 +140,17 @@ fn print_made(
     os: &mut [u32],
     cs: &mut [u32],
     ms: &mut [u32],
-) -> Eval {
-    print_call(row);
+) -> io::Result<Eval> {
+    print_call(rt, row)?;
     let answered = made(row, state, script, text, operators, labels, os, cs, ms);
-    print_answer(answered, os, cs);
-    answered.eval
+    let next = answered.eval;
+    print_answer(rt, answered, os, cs)?;
+    Ok(next)
 }
 
 // One after the other, from a fresh state.
 pub(crate) fn print_all(
+    rt: &impl Print,
     rows: &[[u32; 3]],
     script: Script,
     text: &[u8],
@@ -154,12 +159,13 @@ pub(crate) fn print_all(
     os: &mut [u32],
     cs: &mut [u32],
     ms: &mut [u32],
-) {
+) -> io::Result<()> {
     let mut state = state::new(ms);
     let mut i = 0;
     while i < rows.len() {
         let row = rows[i];
-        state = print_made(row, state, script, text, operators, labels, os, cs, ms);
+        state = print_made(rt, row, state, script, text, operators, labels, os, cs, ms)?;
         i += 1;
     }
+    Ok(())
 }

@@ -3,7 +3,7 @@ ghost use Rattle.std.specs.Prelude.{◌≡◌, ◌<◌, ◌^◌};
 
 // By op: 1 pushes the value; 2 to 31 are the 30 words; 32 is an unknown identifier; 33 is a record damaged at the place value; 34 is a reference
 // without a label; 35 is past the last operator.
-#[derive(Drop)]
+#[derive(Clone, Copy)]
 pub struct Code {
     pub op: usize,
     pub value: usize,

@@ -26,6 +26,7 @@ fn is_named(text: &[u8], start: usize, end: usize, name: &[u8], n: usize) -> boo
 }
 
 // The name is the first n bytes of what is passed.
+#[tactic(auto, using(crate::proofs::Resolved::label_damaged, crate::proofs::Resolved::the_label, crate::proofs::Resolved::other_label))]
 pub(crate) fn resolve(text: &[u8], name: &[u8], n: usize, labels: &[u32]) -> Code
     requires { n ≤ length name.now }
     ensures { (result ≡ code_of (resolved text.now (take n name.now) 0 (labels_of labels.now)))

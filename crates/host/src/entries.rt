@@ -4,7 +4,7 @@ ghost use Rattle.stack_assembly.specs.Answer.{answer};
 ghost use Rattle.stack_assembly.specs.Beside.{call_stack_at};
 
 // An operator's index under 0, or a refusal's number and value.
-#[derive(Drop)]
+#[derive(Clone, Copy)]
 pub struct Entry {
     pub number: u32,
     pub value: usize,

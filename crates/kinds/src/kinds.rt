@@ -6,7 +6,7 @@ ghost use Rattle.kinds.specs.Private.{begins_with_0x, spelled};
 
 use crate::numbers::{Number, Radix, byte_at, read_number};
 
-#[derive(Drop)]
+#[derive(Clone, Copy)]
 pub enum Kind {
     Label,
     Reference,

@@ -13,6 +13,7 @@ use crate::effect::{
 };
 use word::Division;
 
+#[tactic(auto, using(crate::proofs::Places::unary_last), unfolding(crate::specs::Private::unary_of))]
 fn counted(place: usize, a: u32) -> u32
     ensures { result ≡ unary_of place a }
 {

@@ -7,6 +7,7 @@ ghost use Rattle.operators.specs.Private.{binary_of};
 
 use crate::effect::{NONE, OPERAND_STACK_UNDERFLOW, Stack};
 
+#[tactic(auto, unfolding(crate::specs::Private::binary_of))]
 fn arithmetic(place: usize, a: u32, b: u32) -> u32
     requires { place < 3 }
     ensures { result ≡ binary_of place a b }
@@ -20,6 +21,7 @@ fn arithmetic(place: usize, a: u32, b: u32) -> u32
     word::wrapping_sub(a, b)
 }
 
+#[tactic(auto, unfolding(crate::specs::Private::binary_of))]
 fn compared(place: usize, a: u32, b: u32) -> u32
     requires { (3 ≤ place) × (place < 8) }
     ensures { result ≡ binary_of place a b }
@@ -39,6 +41,7 @@ fn compared(place: usize, a: u32, b: u32) -> u32
     order::at_least(a, b)
 }
 
+#[tactic(auto, using(crate::proofs::Places::binary_last), unfolding(crate::specs::Private::binary_of))]
 fn bitwise(place: usize, a: u32, b: u32) -> u32
     requires { 8 ≤ place }
     ensures { result ≡ binary_of place a b }

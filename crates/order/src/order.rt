@@ -24,6 +24,7 @@ fn truth(t: bool) -> u32
     if t { 1 } else { 0 }
 }
 
+#[tactic(auto, unfolding(word::specs::Word::less))]
 pub fn less(a: u32, b: u32) -> u32
     ensures { result ≡ less a b }
 {

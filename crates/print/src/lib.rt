@@ -3,59 +3,58 @@
 
 ghost use Rattle.std.specs.Prelude.{◌≡◌, min};
 
-use libc::STDOUT_FILENO;
+use std::io;
 
-pub fn bytes(s: &[u8]) {
-    io::write_all(STDOUT_FILENO, s);
+pub fn bytes(rt: &impl Print, s: &[u8]) -> io::Result<()> {
+    rt.write_all(s)
 }
 
-pub fn decimal(n: u64) {
-    io::print_decimal(STDOUT_FILENO, n);
+pub fn decimal(rt: &impl Print, n: u64) -> io::Result<()> {
+    print!(rt; "{n}")
 }
 
 // With a space before it.
-pub fn number(n: usize) {
-    bytes(b" ");
-    decimal(n as u64);
+pub fn number(rt: &impl Print, n: usize) -> io::Result<()> {
+    print!(rt; " {n}")
 }
 
 // As two's complement.
-pub fn signed(word: u32) {
+pub fn signed(rt: &impl Print, word: u32) -> io::Result<()> {
     if word < 0x8000_0000 {
-        decimal(word as u64);
+        decimal(rt, word as u64)
     } else {
-        bytes(b"-");
-        decimal(0x1_0000_0000 - (word as u64));
+        bytes(rt, b"-")?;
+        decimal(rt, 0x1_0000_0000 - (word as u64))
     }
 }
 
 // Each with a space before it.
-pub fn words(table: &[u32]) {
+pub fn words(rt: &impl Print, table: &[u32]) -> io::Result<()> {
     let mut i = 0;
     while i < table.len() {
-        number(table[i] as usize);
+        number(rt, table[i] as usize)?;
         i += 1;
     }
+    Ok(())
 }
 
-fn byte(b: u8) {
+fn byte(rt: &impl Print, b: u8) -> io::Result<()> {
     if (b < 0x20) | (0x7E < b) | (b == 0x22) | (b == 0x5C) {
-        bytes(b"\\x");
-        io::print_hex(STDOUT_FILENO, b as u64, 2);
+        print!(rt; "\\x{b:02x}")
     } else {
-        bytes(&[b]);
+        bytes(rt, &[b])
     }
 }
 
 // In quotes; by its number, a byte that is no printable ASCII character, or is a quote or a backslash.
-pub fn quoted(s: &[u8]) {
-    bytes(b"\"");
+pub fn quoted(rt: &impl Print, s: &[u8]) -> io::Result<()> {
+    bytes(rt, b"\"")?;
     let mut i = 0;
     while i < s.len() {
-        byte(s[i]);
+        byte(rt, s[i])?;
         i += 1;
     }
-    bytes(b"\"\n");
+    bytes(rt, b"\"\n")
 }
 
 // How many are printed, of so many as are told and so many as there are.

@@ -77,8 +77,8 @@ pub(crate) fn played(
             call_stack,
             memory,
         );
-        agrees = agrees & answer_agrees(call, answered);
         state = answered.eval;
+        agrees = agrees & answer_agrees(call, answered);
         i += 1;
     }
     Outcome { state, agrees }

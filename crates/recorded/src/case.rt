@@ -14,7 +14,7 @@ pub(crate) struct Compared {
     pub agrees: bool,
 }
 
-#[derive(Drop)]
+#[derive(Clone, Copy)]
 struct Sizes {
     text: usize,
     operand_stack: usize,

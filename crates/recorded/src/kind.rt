@@ -1,29 +1,32 @@
 // The cases of one kind, which have a file of their own.
-ghost use Rattle.std.specs.Prelude.{◌+◌, ◌≤◌, length};
+ghost use Rattle.std.specs.Prelude.{◌+◌, ◌≤◌, IfOk, length};
 ghost use Rattle.recorded.specs.Private.{Counted};
 
 use crate::{case, numbers};
 use lists::after;
-use print::{bytes, decimal};
+use std::fs::File;
+use std::io;
+use std::rt::Files;
 
 // How many cases there are, how many agree, and the number of the first that does not, from 1 on; 0 for none.
-#[derive(Drop)]
+#[derive(Clone, Copy)]
 pub(crate) struct Tally {
     pub cases: usize,
     pub agreeing: usize,
     pub first: usize,
 }
 
-pub(crate) fn show(tally: Tally) {
-    decimal(tally.agreeing as u64);
-    bytes(b" of ");
-    decimal(tally.cases as u64);
-    bytes(b" agree\n");
-    if tally.first != 0 {
-        bytes(b"the first that does not: ");
-        decimal(tally.first as u64);
-        bytes(b"\n");
+pub(crate) fn show(rt: &impl Print, tally: Tally) -> io::Result<()> {
+    let Tally {
+        cases,
+        agreeing,
+        first,
+    } = tally;
+    println!(rt; "{agreeing} of {cases} agree")?;
+    if first != 0 {
+        println!(rt; "the first that does not: {first}")?;
     }
+    Ok(())
 }
 
 fn with_case(tally: Tally, agrees: bool) -> Tally
@@ -70,29 +73,27 @@ fn of_list(list: &[u32]) -> Tally
     tally
 }
 
-fn of_file(name: &[u8]) -> Tally
-    ensures { Counted 131072 result }
+fn of_file(rt: &impl Files, name: &str) -> io::Result<Tally>
+    ensures { IfOk result (Counted 131072) }
 {
     let mut bytes = [0u8; 131072];
     let mut list = [0u32; 131072];
-    let file = os::open_read(name);
-    let length = io::read_full(file, &mut bytes);
-    libc::close(file);
+    let mut file = File::open(rt, name)?;
+    let length = input::fill(&mut file, &mut bytes)?;
     let count = numbers::decoded(&bytes[..length], &mut list);
-    of_list(&list[..count])
+    Ok(of_list(&list[..count]))
 }
 
-pub(crate) fn played(name: &[u8], all: Tally) -> Tally
+pub(crate) fn played(rt: &(impl Files + Print), name: &str, all: Tally) -> io::Result<Tally>
     requires { Counted 2000000 all }
-    ensures { Counted (all.cases + 131072) result }
+    ensures { IfOk result (Counted (all.cases + 131072)) }
 {
-    let tally = of_file(name);
-    bytes(name);
-    bytes(b": ");
-    show(tally);
-    Tally {
+    let tally = of_file(rt, name)?;
+    print!(rt; "{name}: ")?;
+    show(rt, tally)?;
+    Ok(Tally {
         cases: all.cases + tally.cases,
         agreeing: all.agreeing + tally.agreeing,
         first: 0,
-    }
+    })
 }

@@ -8,7 +8,7 @@ use crate::records::{Counted, copy_words, pass};
 use utf8::is_ascii;
 
 // How many records the tables hold.
-#[derive(Drop)]
+#[derive(Clone, Copy)]
 pub struct Script {
     pub operators: usize,
     pub labels: usize,

@@ -7,7 +7,7 @@ ghost use Rattle.state.specs.Lends.{state_of, lent, answered};
 use script::Script;
 
 // The next operator's index, the depths of both stacks, and the standing effect, 0 for none, with its operator.
-#[derive(Drop)]
+#[derive(Clone, Copy)]
 pub struct Eval {
     pub next_operator: u32,
     pub operand_depth: usize,

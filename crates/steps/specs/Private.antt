@@ -1,23 +1,21 @@
 -- What the private functions ask and promise; no public contract cites it.
-use Rattle.std.specs.Prelude.{ℕ, zero, suc, ◌+◌, ◌-◌, ◌≤◌, ◌<◌, max, ◌*◌, ◌/◌, ◌%◌, ◌^◌, Bool, true, false, cond, List, [], ◌∷◌, ◌⊎◌, ◌≡◌, ltb, eqb, length, get_or, set}
+use Rattle.std.specs.Prelude.{ℕ, zero, suc, ◌+◌, ◌-◌, ◌≤◌, ◌<◌, max, ◌^◌, cond, List, ◌≡◌, ltb, eqb, length}
 use Rattle.word.specs.Word.{wrap}
 use Rattle.stack_assembly.specs.Machine as machine
 use Rattle.stack_assembly.specs.Machine.{Machine, Room, Done, done, with_store, with_effect}
 use Rattle.stack_assembly.specs.Script.{Script}
 use Rattle.stack_assembly.specs.Words.{return}
 use Rattle.stack_assembly.specs.Operators.{evaluated}
-use Rattle.stack_assembly.specs.Step.{word, fetched, advanced, settled}
+use Rattle.stack_assembly.specs.Step.{advanced, settled}
 use Rattle.stack_assembly.specs.Run.{run, reached_in_run}
 use Rattle.stack_assembly.specs.Promise.{operand_depth, call_depth, Kept}
 use Rattle.steps.specs.declared.outcome.Store.{Store}
 use Rattle.steps.specs.declared.outcome.Outcome.{Outcome}
 use Rattle.steps.specs.declared.budget.Ran.{Ran}
 use Rattle.steps.specs.declared.steps.Stretch.{Stretch}
-use Rattle.fetch.specs.declared.codes.Code.{Code}
 use Rattle.operators.specs.declared.effect.Stack.{Stack}
 use Rattle.transfers.specs.declared.effect.Jump.{Jump}
-use Rattle.steps.specs.Runs.{store_in, room, Fits, machine_in, standing}
-use Rattle.fetch.specs.Codes.{fetched_of, Small}
+use Rattle.steps.specs.Runs.{store_in, room, machine_in, standing}
 
 -- The next operator's index, advanced.
 abbrev pub next_after : Store → ℕ

@@ -9,7 +9,7 @@ use crate::outcome::Store;
 use crate::steps::{Stretch, steps};
 
 // The store after a run, its number and value, and how many steps it made.
-#[derive(Drop)]
+#[derive(Clone, Copy)]
 pub struct Ran {
     pub store: Store,
     pub number: u32,

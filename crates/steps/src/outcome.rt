@@ -6,14 +6,14 @@ use operators::Stack;
 use transfers::Jump;
 
 // The next operator's index, and the depths of both stacks.
-#[derive(Drop)]
+#[derive(Clone, Copy)]
 pub struct Store {
     pub next_operator: u32,
     pub operand_depth: usize,
     pub call_depth: usize,
 }
 
-#[derive(Drop)]
+#[derive(Clone, Copy)]
 pub(crate) struct Outcome {
     pub store: Store,
     pub number: u32,

@@ -11,7 +11,7 @@ use crate::outcome::{Store, next_after};
 use recall::fetched;
 
 // How steps ended: 0 where the budget is used, else an effect or a refusal with its value; and what was left of the budget before the last one.
-#[derive(Drop)]
+#[derive(Clone, Copy)]
 pub(crate) struct Stretch {
     pub store: Store,
     pub number: u32,

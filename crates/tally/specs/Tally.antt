@@ -1,6 +1,5 @@
 -- What tally prints: an answer, then the operands.
-use Rattle.std.specs.Prelude.{ℕ, zero, suc, List, [], ◌≡◌}
-use Rattle.io.specs.Counts.{IsPrefixLen}
+use Rattle.std.specs.Prelude.{ℕ, zero, suc, List, [], length, take, ◌≡◌, ◌≤◌}
 use Rattle.stack_assembly.specs.Answer.{Answer, answer}
 use Rattle.stack_assembly.specs.Script.{CompileAnswer, compile}
 use Rattle.stack_assembly.specs.Machine.{Done}
@@ -26,6 +25,10 @@ unfoldable pub tally : (text : List ℕ) → Buffers → Printed
 tally text b =
     let a : CompileAnswer = (compile text b.operators b.labels).answer in
     printed a.number a.value (defined (run_call 1000000) (begun text b))
+
+-- `&xs[..n]` is in bounds and has n words.
+abbrev pub IsPrefixLen : ℕ → List ℕ → Type 0
+IsPrefixLen n xs = (n ≤ length xs) × (n ≡ length (take n xs))
 
 -- The answer that is printed, and the words of the operand stack up to its depth.
 pub record Tallies (text : List ℕ) (b : Buffers) (r : Answered) (operand_stack : List ℕ) : Type 0 where

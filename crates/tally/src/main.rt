@@ -4,12 +4,12 @@
 mod printed;
 mod tallied;
 
-use libc::STDIN_FILENO;
+use std::io;
 use tallied::tally;
 
-fn main() {
-    let mut text = io::large_buffer();
-    let length = io::read_full(STDIN_FILENO, &mut text);
+fn main(rt: HostRuntime) -> io::Result<()> {
+    let mut text = [0; 65536];
+    let length = input::fill(&mut rt.reader(), &mut text)?;
     let mut operators = [0; 4 * 4096];
     let mut labels = [0; 3 * 1024];
     let mut operand_stack = [0; 1024];
@@ -25,6 +25,6 @@ fn main() {
     );
     let eval = answered.eval;
     let depth = eval.operand_depth;
-    printed::answer(answered.number, answered.value, answered.steps);
-    printed::operands(&operand_stack[..depth]);
+    printed::answer(&rt, answered.number, answered.value, answered.steps)?;
+    printed::operands(&rt, &operand_stack[..depth])
 }

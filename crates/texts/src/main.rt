@@ -7,18 +7,20 @@ mod limits;
 mod show;
 mod words;
 
-fn main() {
-    cards::cards();
-    characters::white_space();
-    characters::no_white_space();
-    characters::rows();
-    characters::ill_formed();
-    characters::cut_off();
-    words::comments();
-    words::names();
-    words::decimal();
-    words::hexadecimal();
-    limits::tables();
-    limits::no_tables();
-    limits::long_texts();
+use std::io;
+
+fn main(rt: HostRuntime) -> io::Result<()> {
+    cards::cards(&rt)?;
+    characters::white_space(&rt)?;
+    characters::no_white_space(&rt)?;
+    characters::rows(&rt)?;
+    characters::ill_formed(&rt)?;
+    characters::cut_off(&rt)?;
+    words::comments(&rt)?;
+    words::names(&rt)?;
+    words::decimal(&rt)?;
+    words::hexadecimal(&rt)?;
+    limits::tables(&rt)?;
+    limits::no_tables(&rt)?;
+    limits::long_texts(&rt)
 }

@@ -2,6 +2,7 @@
 ghost use Rattle.std.specs.Prelude.{◌≡◌};
 ghost use Rattle.word.specs.Word.{wrapping_mul, wrapping_add, wrapping_sub};
 
+#[tactic(auto, unfolding(crate::specs::Word::wrapping_mul))]
 pub fn wrapping_mul(a: u32, b: u32) -> u32
     ensures { result ≡ wrapping_mul a b }
 {

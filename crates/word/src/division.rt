@@ -14,6 +14,7 @@ pub enum Division {
 }
 
 // x where a is not negative, else -x.
+#[tactic(auto, unfolding(crate::specs::Answers::with_sign_of))]
 fn with_sign_of(a: u32, x: u32) -> u32
     ensures { result ≡ with_sign_of a x }
 {
@@ -47,6 +48,7 @@ fn remainder(a: u32, b: u32) -> u32
     with_sign_of(a, magnitude(a) % magnitude(b))
 }
 
+#[tactic(auto, unfolding(crate::specs::Word::divide))]
 pub fn divide(a: u32, b: u32) -> Division
     ensures { division_of result ≡ divide a b }
 {

@@ -1,5 +1,5 @@
 -- The places of the 30 words, in the order of the definition's table.
-use Rattle.std.specs.Prelude.{ℕ, ◌<◌, List, map, ◌≡◌, get_or}
+use Rattle.std.specs.Prelude.{ℕ, ◌<◌, map, ◌≡◌, get_or}
 use Rattle.std.proofs.Math.Option.{Option, none, some}
 use Rattle.stack_assembly.specs.Words.{Word, Row, words, mul, add, sub, lt, le, eq, gt, ge, and, or, xor, rotate_left, rotate_right, shift_left, shift_right, count_ones, leading_zeros, trailing_zeros, copy, drop, div, read, write, jump, jump_if, call, call_either, return, assert, yield}
 

@@ -1,4 +1,6 @@
 // The 30 words as rows of bytes, and the place of a name among them.
+#![tactic(auto, unfolding(crate::specs::Private::walk, crate::specs::Private::one_byte, crate::specs::Private::up_to_four, crate::specs::Private::up_to_seven, crate::specs::Private::longer, names::specs::Packed::first_eight, names::specs::Packed::packed, stack_assembly::specs::Words::words, stack_assembly::specs::Words::lookup, names::specs::Names::same_bytes))]
+
 ghost use Rattle.std.specs.Prelude.{cond, ◌&&◌, ◌≡◌, min, ◌≤◌, eqb, length, take, drop};
 ghost use Rattle.names.specs.Packed.{packed, first_eight};
 ghost use Rattle.stack_assembly.specs.Words.{words, lookup};
@@ -120,6 +122,7 @@ fn longer(head: u64, tail: u64) -> usize
     is(head, tail, b"call_either\0\0\0\0\x0b", 26)
 }
 
+#[tactic(auto, unfolding(crate::specs::Private::walk, crate::specs::Private::several_bytes))]
 fn several_bytes(head: u64, tail: u64) -> usize
     ensures { result ≡ walk several_bytes head tail }
 {
