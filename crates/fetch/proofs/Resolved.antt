@@ -2,14 +2,11 @@
 use Prim.Native.Nat.{ℕ, ◌+◌, ◌-◌, ◌*◌, ◌≤◌, ◌<◌}
 use mathlib.Core.Bool.{Bool, true, false, cond}
 use mathlib.Core.List.{List}
-use mathlib.Core.Path.{◌≡◌, refl, sym, ◌∙◌}
+use mathlib.Core.Path.{◌≡◌, sym, ◌∙◌}
 use native.Mathlib.Numerals.{add-one}
 use native.Mathlib.Omega.{arith}
-use borrow.Author.Tests.{ltb-false}
-use lib.Dec.{ltb}
 use lib.ListN.{length, get_or, take, drop}
 use lib.Seq.{length-slice, length-take-le}
-use Rattle.base.proofs.Tests.{neither}
 use Rattle.names.proofs.Same.{unequal_lengths}
 use Rattle.names.specs.Names.{same_bytes}
 use Rattle.stack_assembly.specs.Script.{part, damaged_label, label_in, label_capacity}
@@ -35,40 +32,26 @@ pub record Seeking (text name labels : List ℕ) (i : ℕ) : Type 0 where
   pub inside : i ≤ label_capacity labels
   pub left : resolved text name 0 (labels_of labels) ≡ resolved text name i (drop i (labels_of labels))
 
-pub seek : (text name labels : List ℕ) → Seeking text name labels 0
-seek text name labels = record { inside = omega arith; left = refl }
-
 module _ {text name labels : List ℕ} {i : ℕ} (s : Seeking text name labels i) where
   pub no_label : label_capacity labels ≤ i → code 34 0 ≡ code_of (resolved text name 0 (labels_of labels))
   unfolding resolved labels_of
   no_label h = rw (s.left, no_more 3 label_in (label_capacity labels) labels i h)
 
--- At the i-th label, with what was read of it, and whether it is damaged.
-pub record AtLabel (text name labels : List ℕ) (i start end : ℕ) (d : Bool) : Type 0 where
-  pub seeking : Seeking text name labels i
-  pub more : i < label_capacity labels
-  pub start_is : start ≡ get_or labels (3 * i) 0
-  pub end_is : end ≡ get_or labels (3 * i + 1) 0
-  pub damaged_is : d ≡ damaged_label text (range start end)
-
-module _ {text name labels : List ℕ} {i start end : ℕ} {d : Bool} (l : AtLabel text name labels i start end d) where
+-- What was read of the i-th label, and whether it is damaged.
+module _ {text name labels : List ℕ} {i start end : ℕ} {d : Bool} (s : Seeking text name labels i) (more : i < label_capacity labels)
+    (start_is : start ≡ get_or labels (3 * i) 0) (end_is : end ≡ get_or labels (3 * i + 1) 0) (damaged_is : d ≡ damaged_label text (range start end)) where
   here : resolved text name 0 (labels_of labels)
       ≡ cond d (damaged i)
       (cond (same_bytes (part text start end) name) (pushes (get_or labels (3 * i + 2) 0)) (resolved text name (i + 1) (drop (i + 1) (labels_of labels))))
   unfolding resolved labels_of
-  here = l.seeking.left ∙ rw (next-label (label_capacity labels) i labels l.more, l.damaged_is, l.start_is, l.end_is, add-one i)
+  here = s.left ∙ rw (next-label (label_capacity labels) i labels more, damaged_is, start_is, end_is, add-one i)
 
-  pub damaged-label : d ≡ true → code 33 i ≡ code_of (resolved text name 0 (labels_of labels))
-  damaged-label t = rw (here, t)
+  pub label_damaged : d ≡ true → code 33 i ≡ code_of (resolved text name 0 (labels_of labels))
+  label_damaged t = rw (here, t)
 
-  pub whole_label : d ≡ false → (start ≤ end) × (end ≤ length text)
-  whole_label t =
-      let p = neither (ltb end start) (ltb (length text) end) (sym l.damaged_is ∙ t) in
-      (ltb-false end start p.0, ltb-false (length text) end p.1)
-
-  pub the_label : d ≡ false → {s : Bool} → s ≡ same_bytes (part text start end) name → s ≡ true → {w : ℕ} → w ≡ get_or labels (3 * i + 2) 0
+  pub the_label : d ≡ false → {same : Bool} → same ≡ same_bytes (part text start end) name → same ≡ true → {w : ℕ} → w ≡ get_or labels (3 * i + 2) 0
       → code 1 w ≡ code_of (resolved text name 0 (labels_of labels))
   the_label t q e v = rw (here, t, ← q, e, v)
 
-  pub other-label : d ≡ false → {s : Bool} → s ≡ same_bytes (part text start end) name → s ≡ false → Seeking text name labels (i + 1)
-  other-label t q e = record { inside = omega (arith, l.more); left = here ∙ rw (t, ← q, e) }
+  pub other_label : d ≡ false → {same : Bool} → same ≡ same_bytes (part text start end) name → same ≡ false → Seeking text name labels (i + 1)
+  other_label t q e = record { inside = omega arith; left = here ∙ rw (t, ← q, e) }

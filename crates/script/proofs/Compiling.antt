@@ -1,7 +1,7 @@
 -- What compile answers, and both tables after it, by the tests that lead there.
 use Prim.Native.Nat.{ℕ, suc, ◌*◌, ◌/◌, ◌≤◌, ◌<◌}
 use mathlib.Core.List.{List, ◌++◌, flat_map}
-use mathlib.Core.Option.{Option, none, some, none-ne-some}
+use mathlib.Core.Option.{Option, none, some}
 use mathlib.Core.Path.{◌≡◌, refl, sym, subst, ◌∙◌}
 use native.Mathlib.Omega.{arith}
 use borrow.Author.Tests.{lt-ltb, le-ltb}
@@ -66,11 +66,6 @@ module _ (text operators labels : List ℕ) where
 
       -- a pass that writes
       module _ {r : Counted} {operators' labels' : List ℕ} (p : Passes text operators labels r operators' labels') where
-        pub never_ill_formed : {at : ℕ} → r ≡ IllFormed at → ⊥
-        never_ill_formed {at} e =
-            let broken : ill_formed_at (chars text) ≡ some at = told _ _ _ (sym e ∙ p.answer) in
-            none-ne-some at (sym a.well_formed ∙ broken)
-
         pub written : {n m : ℕ} → r ≡ Records n m → Compiles text operators labels (record { answer = accepted n m; operators = operators'; labels = labels' })
         written {n} {m} e =
             let counts : Told (ill_formed_at (chars text)) (length (script_of text).operators) (length (script_of text).labels) (Records n m) = told _ _ _ (sym e ∙ p.answer) in
@@ -80,8 +75,8 @@ module _ (text operators labels : List ℕ) where
 
     -- a pass that writes to other tables
     module _ {own₁ own₂ own₁' own₂' : List ℕ} {r : Counted} (p : Passes text own₁ own₂ r own₁' own₂') where
-      pub ill-formed : {at : ℕ} → r ≡ IllFormed at → Compiles text operators labels (record { answer = rejected 21 at; operators = operators; labels = labels })
-      ill-formed {at} e =
+      pub ill_formed_text : {at : ℕ} → r ≡ IllFormed at → Compiles text operators labels (record { answer = rejected 21 at; operators = operators; labels = labels })
+      ill_formed_text {at} e =
           let broken : ill_formed_at (chars text) ≡ some at = told _ _ _ (sym e ∙ p.answer) in
           refused 20 at (not_long ∙ rw broken)
 
@@ -100,7 +95,7 @@ module _ (text operators labels : List ℕ) where
           too_many_labels h = refused 23 m (counted ∙ rw (le-ltb (length operators / 4) n operators-fit, lt-ltb (length labels / 3) m h))
 
           module _ (labels-fit : m ≤ length labels / 3) where
-            pub accepts : Accepts text operators labels
+            accepts : Accepts text operators labels
             accepts = record { well_formed = counts.0; operators_fit = rw (← counts.1) operators-fit; labels_fit = rw (← counts.2) labels-fit }
 
             pub copied : n * 4 ≤ length own₁' → m * 3 ≤ length own₂' → {operators' labels' : List ℕ}

@@ -15,6 +15,7 @@ use Rattle.stack_assembly.specs.Answer.{answer}
 use Rattle.stack_assembly.specs.Script.{Operator, operator, operator_in, records_in, part}
 use Rattle.stack_assembly.specs.Beside.{Source, no_source, source_from, source}
 use Rattle.sources.specs.declared.sources.SourceRange.{SourceRange}
+use Rattle.sources.specs.declared.sources.SourceRange.TheVariants.{Forged, OutOfRange, Damaged, Range}
 use Rattle.sources.specs.Answers.{located_at, located, source_at}
 
 module _ {R : Type 0} (width : ℕ) (record_of : List ℕ → R) where
@@ -38,8 +39,8 @@ module _ {R : Type 0} (width : ℕ) (record_of : List ℕ → R) where
       (r.0, r.1 ∙ ap (λ (l : List ℕ). record_of (take width l) ∷ r.0) (drop-drop (i * width) width table ∙ ap (λ (k : ℕ). drop k table) (add_comm width (i * width) ∙ sym (suc-mul i width))))
 
 -- an operator's record, by its words
-operator-in : (table : List ℕ) (at : ℕ) → operator_in (take 4 (drop at table)) ≡ operator (get_or table at 0) (get_or table (at + 1) 0) (get_or table (at + 2) 0) (get_or table (at + 3) 0)
-operator-in table at =
+operator_in-at : (table : List ℕ) (at : ℕ) → operator_in (take 4 (drop at table)) ≡ operator (get_or table at 0) (get_or table (at + 1) 0) (get_or table (at + 2) 0) (get_or table (at + 3) 0)
+operator_in-at table at =
     let word : (j : ℕ) → j < 4 → get_or (take 4 (drop at table)) j 0 ≡ get_or table (at + j) 0 = λ j h. get_or-take 4 (drop at table) j 0 h ∙ get_or-drop at table j 0 in
     rw (word 0 (omega arith), word 1 (omega arith), word 2 (omega arith), word 3 (omega arith), add-zero at)
 
@@ -47,7 +48,7 @@ pub operators-at : (count index : ℕ) (table : List ℕ) → index < count
     → (later : List Operator) × (drop index (map operator_in (records_in 4 count table)) ≡ operator (get_or table (index * 4) 0) (get_or table (index * 4 + 1) 0) (get_or table (index * 4 + 2) 0) (get_or table (index * 4 + 3) 0) ∷ later)
 operators-at count index table h =
     let r = records_at 4 operator_in count index table h in
-    (r.0, r.1 ∙ ap (λ (o : Operator). o ∷ r.0) (operator-in table (index * 4)))
+    (r.0, r.1 ∙ ap (λ (o : Operator). o ∷ r.0) (operator_in-at table (index * 4)))
 
 -- a range of the text, and its bytes
 pub record Stands (text bytes : List ℕ) (start end : ℕ) : Type 0 where
@@ -127,3 +128,10 @@ module _ (count : ℕ) (text operators : List ℕ) (index : ℕ) where
 
   pub answer-stands : (r : SourceRange) → located r ≡ source_at count text operators index → Stands text here.bytes (located r).start (located r).end
   answer-stands r e = rw e stands
+
+  -- none of the refusals has a range
+  pub no_bytes : (r : SourceRange) → located r ≡ source_at count text operators index → ((start end : ℕ) → r ≡ Range start end → ⊥) → [] ≡ here.bytes
+  no_bytes Forged e n = sym (answer-stands Forged e).bytes_are
+  no_bytes (OutOfRange i) e n = sym (answer-stands (OutOfRange i) e).bytes_are
+  no_bytes (Damaged i) e n = sym (answer-stands (Damaged i) e).bytes_are
+  no_bytes (Range start end) e n = absurd (n start end refl)

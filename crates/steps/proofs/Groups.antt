@@ -10,7 +10,8 @@ use Rattle.stack_assembly.specs.Words.{Word, words}
 use Rattle.stack_assembly.specs.Machine.{Store, Room}
 use Rattle.stack_assembly.specs.Operators.{entered, evaluated}
 use Rattle.operators.specs.Outcomes.{binary_word, stack_word}
-use Rattle.transfers.specs.Outcomes.{memory_word, jump_word, entered_by}
+use Rattle.transfers.specs.Outcomes as transferred
+use Rattle.transfers.specs.Outcomes.{jump_word, entered_by}
 use Rattle.words.specs.Places.{place, word_at}
 use Rattle.words.proofs.Words.{right}
 
@@ -22,21 +23,21 @@ in_group group from n t k l h =
     sym (right.again (group (k - from))) ∙ ap word_at (p ∙ e)
 
 module _ (k : ℕ) where
-  pub binary-word : k < 15 → binary_word k ≡ word_at k
+  pub binary_word-at : k < 15 → binary_word k ≡ word_at k
   unfolding binary_word
-  binary-word h = let e : k - 0 ≡ k = omega arith in rw e at (in_group binary_word 0 15 refl k (omega arith) (omega arith))
+  binary_word-at h = let e : k - 0 ≡ k = omega arith in rw e at (in_group binary_word 0 15 refl k (omega arith) (omega arith))
 
-  pub stack-word : 15 ≤ k → k < 21 → stack_word (k - 15) ≡ word_at k
+  pub stack_word-at : 15 ≤ k → k < 21 → stack_word (k - 15) ≡ word_at k
   unfolding stack_word
-  stack-word l h = in_group stack_word 15 6 refl k l h
+  stack_word-at l h = in_group stack_word 15 6 refl k l h
 
-  pub memory_word : 21 ≤ k → k < 23 → memory_word (k - 21) ≡ word_at k
-  unfolding memory_word
-  memory_word l h = in_group memory_word 21 2 refl k l h
+  pub memory_word-at : 21 ≤ k → k < 23 → transferred.memory_word (k - 21) ≡ word_at k
+  unfolding transferred.memory_word
+  memory_word-at l h = in_group transferred.memory_word 21 2 refl k l h
 
-  pub jump-word : 23 ≤ k → k < 25 → jump_word (k - 23) ≡ word_at k
+  pub jump_word-at : 23 ≤ k → k < 25 → jump_word (k - 23) ≡ word_at k
   unfolding jump_word
-  jump-word l h = in_group jump_word 23 2 refl k l h
+  jump_word-at l h = in_group jump_word 23 2 refl k l h
 
 module _ (room : Room) (m : Store) where
   enters : (i : ℕ) → i < 2 → evaluated room (word_at (25 + i)) m ≡ entered room m (entered_by i)

@@ -93,11 +93,11 @@ words-agree = (both (each_agrees words) (each_leaf one_byte && each_leaf several
 leaves_agree : (each_leaf one_byte ≡ true) × (each_leaf several_bytes ≡ true)
 leaves_agree = both (each_leaf one_byte) (each_leaf several_bytes) (both (each_agrees words) (each_leaf one_byte && each_leaf several_bytes) test).1
 
-are-bytes : (l : List ℕ) → are_bytes l ≡ true → AreBytes l
+are_bytes-true : (l : List ℕ) → are_bytes l ≡ true → AreBytes l
 unfolding are_bytes
-are-bytes [] t k = omega arith
-are-bytes (b ∷ l) t zero = ltb-true b 256 (both (ltb b 256) (are_bytes l) t).0
-are-bytes (b ∷ l) t (suc k) = are-bytes l (both (ltb b 256) (are_bytes l) t).1 k
+are_bytes-true [] t k = omega arith
+are_bytes-true (b ∷ l) t zero = ltb-true b 256 (both (ltb b 256) (are_bytes l) t).0
+are_bytes-true (b ∷ l) t (suc k) = are_bytes-true l (both (ltb b 256) (are_bytes l) t).1 k
 
 -- ---- for every name
 
@@ -142,7 +142,7 @@ module _ (name : List ℕ) (b : AreBytes name) (h : length name ≤ 15) where
       let s = both (eqb (head_of name) (first_eight row)) (eqb (tail_of name) (first_eight (drop 8 row))) e in
       let heads = eqb-true (head_of name) (first_eight row) s.0 ∙ eqb-true (first_eight row) (head_of own) r.0 in
       let tails = eqb-true (tail_of name) (first_eight (drop 8 row)) s.1 ∙ eqb-true (first_eight (drop 8 row)) (tail_of own) r.1 in
-      rw (told name own b (are-bytes own q.0) h (agreed own p.0).0.1 heads tails) p.0
+      rw (told name own b (are_bytes-true own q.0) h (agreed own p.0).0.1 heads tails) p.0
 
   by_tree : (t : Tree) → each_leaf t ≡ true → (walk t (head_of name) (tail_of name) ≡ 30) ⊎ (agrees name ≡ true)
   unfolding walk each_leaf
@@ -193,8 +193,8 @@ found_of_several : (name : List ℕ) → (length name ≡ 1 → ⊥) → walk se
 unfolding found head_of
 found_of_several name l = rw (ne_eqb (length name) 1 l)
 
-eight-of : (n : ℕ) (text : List ℕ) → take (min n 8) text ≡ take 8 (take n text)
-eight-of n text = by_length (leb n 8) refl
+take-min_eight : (n : ℕ) (text : List ℕ) → take (min n 8) text ≡ take 8 (take n text)
+take-min_eight n text = by_length (leb n 8) refl
   where
     by_length : (t : Bool) → leb n 8 ≡ t → take (min n 8) text ≡ take 8 (take n text)
     by_length true t =
@@ -220,7 +220,7 @@ module _ (text : List ℕ) (b : AreBytes text) (k : ℕ) {n : ℕ} (e : n ≡ mi
   pub no_name : (ltb n 1 || ltb 15 n) ≡ true → 30 ≡ place_of (lookup (take k text) words)
   no_name t = rw name_is (no_word (take n text) (rw name-length t))
 
-  pub a_name : (ltb n 1 || ltb 15 n) ≡ false → (1 ≤ n) × (n ≤ 15) × (n ≤ length text)
+  a_name : (ltb n 1 || ltb 15 n) ≡ false → (1 ≤ n) × (n ≤ 15) × (n ≤ length text)
   a_name t =
       let p = neither (ltb n 1) (ltb 15 n) t in
       (ltb-false n 1 p.0, ltb-false 15 n p.1, omega arith)
@@ -236,7 +236,7 @@ module _ (text : List ℕ) (b : AreBytes text) (k : ℕ) {n : ℕ} (e : n ≡ mi
         → r ≡ place_of (lookup (take k text) words)
     of_several several eh ev er =
         er
-        ∙ rw (eh, ev, eight-of n text) (found_of_several (take n text) (λ (l : length (take n text) ≡ 1). several (sym name-length ∙ l)))
+        ∙ rw (eh, ev, take-min_eight n text) (found_of_several (take n text) (λ (l : length (take n text) ≡ 1). several (sym name-length ∙ l)))
         ∙ right-name
 
 -- ---- places

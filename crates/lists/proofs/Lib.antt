@@ -1,2 +1,0 @@
--- Laws of a test that came out.
-pub mod Telling
