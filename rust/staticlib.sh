@@ -3,7 +3,9 @@
 # loops of a run then stay within as few lines as they can (docs/BENCHMARKS.md). Without objcopy the library is as rt writes it.
 set -eu
 cd "$(dirname "$0")/.."
-rt staticlib stack_assembly_c
+(cd crates/stack_assembly_c && rt lib)
+mkdir -p target/staticlib
+cp crates/stack_assembly_c/out/libstack_assembly_c.a target/staticlib/
 if command -v objcopy > /dev/null; then
     objcopy --set-section-alignment '.text.*=64' target/staticlib/libstack_assembly_c.a
 else
