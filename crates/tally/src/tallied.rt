@@ -34,7 +34,7 @@ pub(crate) fn tally(
     call_stack: &mut [u32],
     memory: &mut [u32],
 ) -> Answered
-    ensures { Tallies text.now (record { operators = operators.entry.now; labels = labels.old; operand_stack = operand_stack.old; call_stack = call_stack.old; memory = memory.old }) result operand_stack.new }
+    ensures { Tallies text.now (record { operators = operators.old; labels = labels.old; operand_stack = operand_stack.old; call_stack = call_stack.old; memory = memory.old }) result operand_stack.new }
 {
     match script::compile(text, operators, labels) {
         Compiled::TooLong => refused(22, 65535),

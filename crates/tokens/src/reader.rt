@@ -42,7 +42,7 @@ impl<'a> Reader<'a> {
     }
 }
 
-// What a reader that starts at an offset answers first; who calls it needs no proof by hand.
+// What a reader that starts at an offset answers first.
 pub fn read_token(text: &[u8], from: usize) -> Next
     ensures { result ≡ next_at text.now from }
 {
