@@ -1,8 +1,8 @@
-// The bits of words: bit by bit, counts, rotations and shifts, by the definitions of the crate word.
+// A count of bits and rotations, as the crate word defines them: std's, which promise the same in other words.
 #![tactic(auto)]
 
 mod bits;
 mod shifts;
 
-pub use bits::{bitwise_and, bitwise_or, bitwise_xor, count_ones, leading_zeros, trailing_zeros};
-pub use shifts::{rotate_left, rotate_right, shift_left, shift_right};
+pub use bits::count_ones;
+pub use shifts::{rotate_left, rotate_right};

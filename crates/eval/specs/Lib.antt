@@ -1,2 +1,4 @@
--- What the evaluator's contracts cite beside the definition and the state.
-pub mod Private
+-- What is promised of an evaluation.
+pub mod Lends
+pub mod Answers
+pub mod Text

@@ -1,8 +1,10 @@
-// What Rust's `from_str_radix` gave, and what a token is.
+// What a token is, and the number that it may spell.
 #![tactic(auto)]
 
-mod kinds;
-mod numbers;
+mod kind;
+mod number;
+mod worked_examples;
 
-pub use kinds::{Kind, is_label, kind_of};
-pub use numbers::{Number, Radix, read_number};
+pub use kind::{Kind, is_label, kind_of};
+pub use number::{Radix, read_number};
+pub use worked_examples::examples_hold;

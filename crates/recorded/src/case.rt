@@ -1,236 +1,151 @@
-// A case: nine sizes, the text, its records, the calls, and what is there at the end.
-ghost use Rattle.std.specs.Prelude.{true, ◌≡◌, ◌≤◌, ◌<◌, length};
-ghost use Rattle.recorded.specs.Private.{Fit};
+// A case: what it is played on, its calls, and what these leave.
+ghost use Rattle.std.specs.Prelude.{◌≡◌, ◌<◌, ◌↔◌, IsTrue, OnSome, take, length};
 
-use crate::calls;
-use lists::{after, first, number, same};
-use script::{Compiled, Script};
-use state::Eval;
+use crate::call;
+use crate::list::List;
+use eval::Eval;
+use evaluation::Buffers;
+use records::{LabelRecord, OperatorRecord, Record};
 
-// How many numbers a case has, and whether the engine answers them.
-#[derive(Drop)]
-pub(crate) struct Compared {
-    pub length: usize,
-    pub agrees: bool,
-}
+// The greatest sizes of a case: its text in bytes, the buffers in words, the rest in records and calls.
+const TEXT_BYTES: usize = 400;
 
+const OPERAND_WORDS: usize = 64;
+
+const CALL_WORDS: usize = 16;
+
+const MEMORY_WORDS: usize = 20;
+
+const OPERATORS: usize = 128;
+
+const LABELS: usize = 64;
+
+const CALLS: usize = 20;
+
+/// In the order of the sizes that a case begins with; the last two are the depths at the end.
+static GREATEST: [usize; 9] = [
+    TEXT_BYTES,
+    OPERAND_WORDS,
+    CALL_WORDS,
+    MEMORY_WORDS,
+    OPERATORS,
+    LABELS,
+    CALLS,
+    OPERAND_WORDS,
+    CALL_WORDS,
+];
+
+/// What the calls leave: both stacks from the bottom up, and the memory.
 #[derive(Clone, Copy)]
-struct Sizes {
-    text: usize,
-    operand_stack: usize,
-    call_stack: usize,
-    memory: usize,
-    operators: usize,
-    labels: usize,
-    calls: usize,
-    operand_depth: usize,
-    call_depth: usize,
+struct End<'a> {
+    operands: &'a [u32],
+    calls: &'a [u32],
+    memory: &'a [u32],
 }
 
-fn sizes_of(case: &[u32]) -> Sizes {
-    Sizes {
-        text: number(case, 0) as usize,
-        operand_stack: number(case, 1) as usize,
-        call_stack: number(case, 2) as usize,
-        memory: number(case, 3) as usize,
-        operators: number(case, 4) as usize,
-        labels: number(case, 5) as usize,
-        calls: number(case, 6) as usize,
-        operand_depth: number(case, 7) as usize,
-        call_depth: number(case, 8) as usize,
+impl End<'_> {
+    // A case and an evaluation are two types, so no derive compares them.
+    fn is_of(&self, eval: &Eval<'_>) -> bool
+        ensures { IsTrue result ↔ (take eval.now.state.operand_depth eval.now.operand_stack.now ≡ self.now.operands.now) × (take eval.now.state.call_depth eval.now.call_stack.now ≡ self.now.calls.now) × (eval.now.memory.now ≡ self.now.memory.now) }
+    {
+        eval.operands() == self.operands
+            && eval.calls() == self.calls
+            && *eval.memory == *self.memory
     }
 }
 
-fn fit(sizes: Sizes) -> bool
-    ensures { result ≡ true → Fit sizes }
-{
-    (sizes.text <= 400)
-        & (sizes.operand_stack <= 64)
-        & (sizes.call_stack <= 16)
-        & (sizes.memory <= 20)
-        & (sizes.operators <= 128)
-        & (sizes.labels <= 64)
-        & (sizes.calls <= 20)
-        & (sizes.operand_depth <= 64)
-        & (sizes.call_depth <= 16)
+/// The sizes of the buffers are in words; the tables have just the words of their records.
+#[derive(Clone, Copy)]
+pub(crate) struct Case<'a> {
+    text: &'a [u32],
+    operand_words: usize,
+    call_words: usize,
+    operators: &'a [u32],
+    labels: &'a [u32],
+    calls: &'a [u32],
+    end: End<'a>,
 }
 
-fn length_of(sizes: Sizes) -> usize
-    requires { Fit sizes }
-    ensures { 9 ≤ result }
-{
-    9 + sizes.text
-        + 4 * sizes.operators
-        + 3 * sizes.labels
-        + 11 * sizes.calls
-        + sizes.operand_depth
-        + sizes.call_depth
-        + sizes.memory
-}
-
-fn bytes(numbers: &[u32], text: &mut [u8]) {
-    let mut i = 0;
-    while i < text.len() {
-        text[i] = (number(numbers, i) % 0x100) as u8;
-        i += 1;
+impl<'a> Case<'a> {
+    /// The first case of a list; none where a size is too great, or the list ends in it.
+    pub(crate) fn read(list: &mut List<'a>) -> Option<Case<'a>>
+        ensures { OnSome result (length list.new.rest.now < length list.old.rest.now) }
+    {
+        let sizes = list.take_array::<9>()?;
+        for (&size, &greatest) in sizes.iter().zip(&GREATEST) {
+            if greatest < size as usize {
+                return None;
+            }
+        }
+        let [
+            bytes,
+            operand_words,
+            call_words,
+            memory_words,
+            operators,
+            labels,
+            calls,
+            operands,
+            entries,
+        ] = sizes.map(|size| size as usize);
+        Some(Case {
+            text: list.take(bytes)?,
+            operand_words,
+            call_words,
+            operators: list.take(OperatorRecord::WORDS * operators)?,
+            labels: list.take(LabelRecord::WORDS * labels)?,
+            calls: list.take(call::NUMBERS * calls)?,
+            end: End {
+                operands: list.take(operands)?,
+                calls: list.take(entries)?,
+                memory: list.take(memory_words)?,
+            },
+        })
     }
-}
 
-fn records_agree(
-    sizes: Sizes,
-    script: Script,
-    records: &[u32],
-    operators: &[u32],
-    labels: &[u32],
-) -> bool {
-    let label_records = after(records, operators.len());
-    (script.operators == sizes.operators)
-        & (script.labels == sizes.labels)
-        & same(first(records, operators.len()), operators)
-        & same(first(label_records, labels.len()), labels)
-}
+    /// Whether the calls, made now, answer and leave what was recorded.
+    pub(crate) fn agrees(&self) -> bool {
+        self.play().unwrap_or(false)
+    }
 
-// What the calls leave.
-fn ends_agree(
-    sizes: Sizes,
-    state: Eval,
-    ends: &[u32],
-    operand_stack: &[u32],
-    call_stack: &[u32],
-    memory: &[u32],
-) -> bool {
-    let entries = after(ends, sizes.operand_depth);
-    let words = after(entries, sizes.call_depth);
-    (state.operand_depth == sizes.operand_depth)
-        & (state.call_depth == sizes.call_depth)
-        & same(
-            first(ends, sizes.operand_depth),
-            first(operand_stack, sizes.operand_depth),
-        )
-        & same(
-            first(entries, sizes.call_depth),
-            first(call_stack, sizes.call_depth),
-        )
-        & same(words, memory)
-}
-
-fn script_agrees(
-    sizes: Sizes,
-    records: &[u32],
-    script: Script,
-    text: &[u8],
-    operators: &[u32],
-    labels: &[u32],
-    operand_stack: &mut [u32],
-    call_stack: &mut [u32],
-    memory: &mut [u32],
-) -> bool
-    requires { Fit sizes }
-{
-    let calls = after(records, 4 * sizes.operators + 3 * sizes.labels);
-    let ends = after(calls, 11 * sizes.calls);
-    let outcome = calls::played(
-        calls,
-        sizes.calls,
-        script,
-        text,
-        operators,
-        labels,
-        operand_stack,
-        call_stack,
-        memory,
-    );
-    records_agree(sizes, script, records, operators, labels)
-        & outcome.agrees
-        & ends_agree(
-            sizes,
-            outcome.state,
-            ends,
-            operand_stack,
-            call_stack,
-            memory,
-        )
-}
-
-fn agrees_in(
-    sizes: Sizes,
-    rest: &[u32],
-    text: &mut [u8],
-    operators: &mut [u32],
-    labels: &mut [u32],
-    operand_stack: &mut [u32],
-    call_stack: &mut [u32],
-    memory: &mut [u32],
-) -> bool
-    requires { Fit sizes }
-{
-    let records = after(rest, sizes.text);
-    bytes(rest, text);
-    let Compiled::Accepted(script) = script::compile(text, operators, labels) else {
-        return false;
-    };
-    script_agrees(
-        sizes,
-        records,
-        script,
-        text,
-        operators,
-        labels,
-        operand_stack,
-        call_stack,
-        memory,
-    )
-}
-
-// In buffers of just the sizes that the case has.
-fn agrees(sizes: Sizes, rest: &[u32]) -> bool
-    requires { Fit sizes }
-{
-    let mut text = [9u8; 400];
-    let mut operators = [9u32; 512];
-    let mut labels = [9u32; 192];
-    let mut operand_stack = [9u32; 64];
-    let mut call_stack = [9u32; 16];
-    let mut memory = [9u32; 20];
-    let text_bytes = sizes.text;
-    let operator_words = 4 * sizes.operators;
-    let label_words = 3 * sizes.labels;
-    let operand_words = sizes.operand_stack;
-    let call_words = sizes.call_stack;
-    let memory_words = sizes.memory;
-    agrees_in(
-        sizes,
-        rest,
-        &mut text[..text_bytes],
-        &mut operators[..operator_words],
-        &mut labels[..label_words],
-        &mut operand_stack[..operand_words],
-        &mut call_stack[..call_words],
-        &mut memory[..memory_words],
-    )
-}
-
-// The first case of a list. Where it cannot be told how long that is, it has all numbers, and does not agree.
-pub(crate) fn compare(list: &[u32]) -> Compared
-    requires { 0 < length list.now }
-    ensures { (0 < result.length) × (result.length ≤ length list.now) }
-{
-    let sizes = sizes_of(list);
-    if !fit(sizes) {
-        return Compared {
-            length: list.len(),
-            agrees: false,
+    // In buffers of just the sizes that the case has, of a fixed size as there is no heap; none where its text is refused.
+    fn play(&self) -> Option<bool> {
+        let mut text = [9; TEXT_BYTES];
+        let mut operators = [9; OperatorRecord::WORDS * OPERATORS];
+        let mut labels = [9; LabelRecord::WORDS * LABELS];
+        let mut operand_stack = [9; OPERAND_WORDS];
+        let mut call_stack = [9; CALL_WORDS];
+        let mut memory = [9; MEMORY_WORDS];
+        let text = text.get_mut(..self.text.len())?;
+        for (byte, number) in text.iter_mut().zip(self.text) {
+            [*byte, ..] = number.to_le_bytes();
+        }
+        let buffers = Buffers {
+            operators: operators.get_mut(..self.operators.len())?,
+            labels: labels.get_mut(..self.labels.len())?,
+            operand_stack: operand_stack.get_mut(..self.operand_words)?,
+            call_stack: call_stack.get_mut(..self.call_words)?,
+            memory: memory.get_mut(..self.end.memory.len())?,
         };
+        let mut eval = buffers.begin(text).ok()?;
+        Some(self.has_records_of(&eval) && self.calls_agree(&mut eval) && self.end.is_of(&eval))
     }
-    let end = length_of(sizes);
-    if list.len() < end {
-        return Compared {
-            length: list.len(),
-            agrees: false,
-        };
+
+    // As `is_of`: of two types.
+    fn has_records_of(&self, eval: &Eval<'_>) -> bool {
+        eval.counts.operators == OperatorRecord::capacity(self.operators)
+            && eval.counts.labels == LabelRecord::capacity(self.labels)
+            && eval.script.operators == self.operators
+            && eval.script.labels == self.labels
     }
-    Compared {
-        length: end,
-        agrees: agrees(sizes, &list[9..end]),
+
+    fn calls_agree(&self, eval: &mut Eval<'_>) -> bool {
+        let (calls, _) = self.calls.as_chunks::<{ call::NUMBERS }>();
+        for call in calls {
+            if !call::agrees(call, eval) {
+                return false;
+            }
+        }
+        true
     }
 }

@@ -1,7 +1,10 @@
-// `Script::compile`, on lent tables.
+//! What a step reads of a script: the next operator, and what a run remembers of it.
 #![tactic(auto)]
 
-mod records;
+mod memo;
+mod operators;
 mod script;
 
-pub use script::{Compiled, Script, compile};
+pub use memo::Memo;
+pub use operators::{Once, Operators};
+pub use script::Script;

@@ -1,98 +1,107 @@
-// Compile: a text's records, in tables that the caller lends.
-ghost use Rattle.std.specs.Prelude.{true, ◌≡◌, ◌≤◌, length};
-ghost use Rattle.stack_assembly.specs.Promise.{Compiles};
-ghost use Rattle.script.specs.Answers.{compiled_answer};
-ghost use Rattle.script.specs.Private.{Accepts};
+// A script, as its text and the tables that compile wrote: what its operators are.
+ghost use Rattle.std.specs.Prelude.{◌≡◌};
+ghost use Rattle.stack_assembly.specs.Step.{fetched, resolved, identified};
+ghost use Rattle.stack_assembly.specs.Words.{lookup, words};
+ghost use Rattle.script.specs.Held.{held, labels_held};
 
-use crate::records::{Counted, copy_words, pass};
-use utf8::is_ascii;
+use records::{LabelRecord, OperatorKind, OperatorRecord, Record};
+use words::{Fetched, Word};
 
-// How many records the tables hold.
+/// A compiled script: its text, and the words of its records in both tables, no more.
 #[derive(Clone, Copy)]
-pub struct Script {
-    pub operators: usize,
-    pub labels: usize,
+pub struct Script<'a> {
+    pub text: &'a [u8],
+    pub operators: &'a [u32],
+    pub labels: &'a [u32],
 }
 
-#[derive(Drop)]
-pub enum Compiled {
-    TooLong,
-    IllFormed(usize),
-    TooManyOperators(usize),
-    TooManyLabels(usize),
-    Accepted(Script),
-}
-
-// Whether no count is needed to see that the text is accepted.
-fn is_surely_accepted(text: &[u8], operators: &[u32], labels: &[u32]) -> bool
-    requires { length text.now ≤ 65535 }
-    ensures { result ≡ true → Accepts text.now operators.now labels.now }
+#[inline(always)]
+fn identify(name: &[u8]) -> Fetched
+    ensures { result ≡ identified (lookup name.now words) }
 {
-    // Each token has a byte, and another parts it from the next.
-    let most = (text.len() + 1) / 2;
-    if (operators.len() / 4 < most) | (labels.len() / 3 < most) {
-        return false;
-    }
-    is_ascii(text)
-}
-
-fn write_records(text: &[u8], operators: &mut [u32], labels: &mut [u32]) -> Compiled
-    requires { (length text.now ≤ 65535) × Accepts text.now operators.old labels.old }
-    ensures { Compiles text.now operators.old labels.old (record { answer = compiled_answer result; operators = operators.new; labels = labels.new }) }
-{
-    match pass(text, operators, labels) {
-        // Never: the text is well-formed.
-        Counted::IllFormed(at) => Compiled::IllFormed(at),
-        Counted::Records {
-            operators: n,
-            labels: m,
-        } => Compiled::Accepted(Script {
-            operators: n,
-            labels: m,
-        }),
+    match Word::from_name(name) {
+        Some(word) => Fetched::Word(word),
+        None => Fetched::Unknown,
     }
 }
 
-// The records of a short script wait in tables of its own until it is known to be accepted; a longer one is read twice.
-fn write_counted(text: &[u8], operators: &mut [u32], labels: &mut [u32]) -> Compiled
-    requires { length text.now ≤ 65535 }
-    ensures { Compiles text.now operators.old labels.old (record { answer = compiled_answer result; operators = operators.new; labels = labels.new }) }
+// The operator of the first label of that name. By index, as a damaged record is answered by its own.
+#[tactic(auto, using(crate::proofs::Resolved::none_left, crate::proofs::Resolved::damaged_here, crate::proofs::Resolved::named_here, crate::proofs::Resolved::not_here))]
+fn resolve(text: &[u8], labels: &[u32], name: &[u8]) -> Fetched
+    ensures { result ≡ resolved text.now name.now 0 (labels_held labels.now) }
 {
-    let mut own_operators = [0; 4 * 256];
-    let mut own_labels = [0; 3 * 64];
-    match pass(text, &mut own_operators, &mut own_labels) {
-        Counted::IllFormed(at) => Compiled::IllFormed(at),
-        Counted::Records {
-            operators: n,
-            labels: m,
-        } => {
-            if operators.len() / 4 < n {
-                return Compiled::TooManyOperators(n);
-            }
-            if labels.len() / 3 < m {
-                return Compiled::TooManyLabels(m);
-            }
-            if (256 < n) | (64 < m) {
-                return write_records(text, operators, labels);
-            }
-            copy_words(&own_operators[..n * 4], operators);
-            copy_words(&own_labels[..m * 3], labels);
-            Compiled::Accepted(Script {
-                operators: n,
-                labels: m,
-            })
+    for i in 0..LabelRecord::capacity(labels) {
+        let Ok(label) = LabelRecord::read(labels, i, text) else {
+            return Fetched::Damaged(i);
+        };
+        if &text[label.range()] == name {
+            return Fetched::Integer(label.operator);
         }
     }
+    Fetched::Unresolved
 }
 
-pub fn compile(text: &[u8], operators: &mut [u32], labels: &mut [u32]) -> Compiled
-    ensures { Compiles text.now operators.old labels.old (record { answer = compiled_answer result; operators = operators.new; labels = labels.new }) }
-{
-    if 65535 < text.len() {
-        return Compiled::TooLong;
+impl<'a> Script<'a> {
+    ghost use Rattle.std.specs.Prelude.{◌≡◌};
+    ghost use Rattle.stack_assembly.specs.Step.{fetched};
+    ghost use Rattle.script.specs.Held.{held};
+
+    /// The operator at an index: an integer or a short word at once, all else by a look-up.
+    // At once on raw words, since a short word's own tests see to its range: by OperatorRecord::read an integer took 27 instructions for 23, a short word
+    // 43 for 31.
+    #[inline(always)]
+    #[tactic(auto, using(crate::proofs::Fetched::raw_integer))]
+    pub fn fetch(self, next: u32) -> Fetched
+        ensures { result ≡ fetched (held self.entry) next }
+    {
+        let at = next as usize;
+        if at < OperatorRecord::capacity(self.operators) {
+            let [kind, start, end, value] = OperatorRecord::raw(self.operators, at);
+            if kind == OperatorKind::INTEGER {
+                if start < end && end as usize <= self.text.len() {
+                    return Fetched::Integer(value);
+                }
+            } else if kind == OperatorKind::IDENTIFIER && start as usize + 8 <= self.text.len() {
+                if let Some(word) = Word::short(self.text, start, end) {
+                    return Fetched::Word(word);
+                }
+            }
+        }
+        self.look_up_by_call(next)
     }
-    if is_surely_accepted(text, operators, labels) {
-        return write_records(text, operators, labels);
+
+    // A function of its own, and a match that makes the same again, give the call's result a place of its own: else each fetch clears one.
+    #[inline(always)]
+    fn look_up_by_call(self, next: u32) -> Fetched
+        ensures { result ≡ fetched (held self.entry) next }
+    {
+        match self.look_up(next) {
+            Fetched::Past => Fetched::Past,
+            Fetched::Damaged(place) => Fetched::Damaged(place),
+            Fetched::Integer(value) => Fetched::Integer(value),
+            Fetched::Unresolved => Fetched::Unresolved,
+            Fetched::Word(word) => Fetched::Word(word),
+            Fetched::Unknown => Fetched::Unknown,
+        }
     }
-    write_counted(text, operators, labels)
+
+    #[inline(never)]
+    #[tactic(auto, using(crate::proofs::Fetched::past_there, crate::proofs::Fetched::damaged_there, crate::proofs::Fetched::identifier_there, crate::proofs::Fetched::integer_there, crate::proofs::Fetched::reference_there))]
+    fn look_up(self, next: u32) -> Fetched
+        ensures { result ≡ fetched (held self.entry) next }
+    {
+        let at = next as usize;
+        if OperatorRecord::capacity(self.operators) <= at {
+            return Fetched::Past;
+        }
+        let Ok(record) = OperatorRecord::read(self.operators, at, self.text) else {
+            return Fetched::Damaged(at);
+        };
+        let source = &self.text[record.range()];
+        match record.kind {
+            OperatorKind::Identifier => identify(source),
+            OperatorKind::Integer => Fetched::Integer(record.value),
+            OperatorKind::Reference => resolve(self.text, self.labels, &source[1..]),
+        }
+    }
 }

@@ -1,28 +1,15 @@
--- A step: what the next operator is, what evaluating it comes to, and what the step then answers and leaves.
+-- A step: what the next operator is (the enum of the code says what it can be), what evaluating it comes to, and what the step then answers and leaves.
 use Rattle.std.specs.Prelude.{ℕ, zero, suc, ◌+◌, cond, List, [], ◌∷◌, ltb, length, drop}
-use Rattle.std.proofs.Math.Option.{Option, none, some}
+use Rattle.std.specs.Prelude.{Option, None as none, Some as some}
 use Rattle.names.specs.Names.{same_bytes}
+pub use Rattle.words.specs.declared.fetched.Fetched.{Fetched}
+pub use Rattle.words.specs.declared.fetched.Fetched.TheVariants.{Past as past, Damaged as damaged, Integer as pushes, Unresolved as unresolved, Word as word, Unknown as unknown}
 use Rattle.word.specs.Word.{wrap}
 use Rattle.stack_assembly.specs.Answer.{number, InvalidReference, OutOfOperators, UnknownIdentifier}
 use Rattle.stack_assembly.specs.Script.{Operator, Label, Script, part, damaged_operator, damaged_label}
 use Rattle.stack_assembly.specs.Words.{Word, words, lookup}
 use Rattle.stack_assembly.specs.Machine.{Store, Machine, Room, Outcome, continues, raises, refuses, Done, done, with_next, with_store, with_effect, push}
 use Rattle.stack_assembly.specs.Operators.{evaluated}
-
--- What the next operator is: all that a step learns from the script.
-pub data Fetched : Type 0 where
-  -- there is none: past the last
-  past : Fetched
-  -- a record that is needed is damaged, at this place of its table
-  damaged : (place : ℕ) → Fetched
-  -- an integer, or a reference with the operator index of its label
-  pushes : (value : ℕ) → Fetched
-  -- a reference without a label
-  unresolved : Fetched
-  -- an identifier that is one of the 30 words
-  word : Word → Fetched
-  -- an identifier that is none of them
-  unknown : Fetched
 
 -- A reference: labels are examined in order, `place` being the first's, up to the first whose name has the same bytes.
 unfoldable pub resolved : (text name : List ℕ) (place : ℕ) → List Label → Fetched

@@ -2,11 +2,14 @@
 ghost use Rattle.stack_assembly.specs.Run.{read_call, write_call};
 ghost use Rattle.stack_assembly_c.specs.Boundary.{state_of, tables_of, CalledFromC};
 
+use crate::out::written;
+use eval::{Eval, State};
+use records::Counts;
 use script::Script;
-use state::Eval;
 
+/// The word of the memory at an address; `out` is number, the word, 0 steps, and the state.
 #[unsafe(no_mangle)]
-pub extern "C" fn stack_assembly_read(
+pub extern "C" fn stack_assembly_read<'a>(
     next_operator: u32,
     operand_depth: usize,
     call_depth: usize,
@@ -14,52 +17,45 @@ pub extern "C" fn stack_assembly_read(
     effect_operator: u32,
     operator_count: usize,
     label_count: usize,
-    text: &[u8],
-    operators: &[u32],
-    labels: &[u32],
-    operand_stack: &mut [u32],
-    call_stack: &mut [u32],
-    memory: &mut [u32],
+    text: &'a [u8],
+    operators: &'a [u32],
+    labels: &'a [u32],
+    operand_stack: &'a mut [u32],
+    call_stack: &'a mut [u32],
+    memory: &'a mut [u32],
     address: u32,
     out: &mut [u64; 8],
 )
     ensures { CalledFromC (read_call address) (state_of next_operator operand_depth call_depth effect effect_operator) (tables_of operator_count label_count text.now operators.now labels.now) operand_stack.old call_stack.old memory.old out.new operand_stack.new call_stack.new memory.new }
 {
-    let answered = host::read(
-        Eval {
+    let mut eval = Eval {
+        state: State {
             next_operator,
             operand_depth,
             call_depth,
             effect,
             effect_operator,
         },
-        Script {
+        counts: Counts {
             operators: operator_count,
             labels: label_count,
         },
-        text,
-        operators,
-        labels,
+        script: Script {
+            text,
+            operators,
+            labels,
+        },
         operand_stack,
         call_stack,
         memory,
-        address,
-    );
-    let after = answered.eval;
-    *out = [
-        answered.number as u64,
-        answered.value as u64,
-        answered.steps as u64,
-        after.next_operator as u64,
-        after.operand_depth as u64,
-        after.call_depth as u64,
-        after.effect as u64,
-        after.effect_operator as u64,
-    ];
+    };
+    let answer = eval.read(address).into();
+    *out = written(answer, eval.state);
 }
 
+/// Sets the word of the memory at an address; `out` is number, value, 0 steps, and the state.
 #[unsafe(no_mangle)]
-pub extern "C" fn stack_assembly_write(
+pub extern "C" fn stack_assembly_write<'a>(
     next_operator: u32,
     operand_depth: usize,
     call_depth: usize,
@@ -67,48 +63,39 @@ pub extern "C" fn stack_assembly_write(
     effect_operator: u32,
     operator_count: usize,
     label_count: usize,
-    text: &[u8],
-    operators: &[u32],
-    labels: &[u32],
-    operand_stack: &mut [u32],
-    call_stack: &mut [u32],
-    memory: &mut [u32],
+    text: &'a [u8],
+    operators: &'a [u32],
+    labels: &'a [u32],
+    operand_stack: &'a mut [u32],
+    call_stack: &'a mut [u32],
+    memory: &'a mut [u32],
     address: u32,
     word: u32,
     out: &mut [u64; 8],
 )
     ensures { CalledFromC (write_call address word) (state_of next_operator operand_depth call_depth effect effect_operator) (tables_of operator_count label_count text.now operators.now labels.now) operand_stack.old call_stack.old memory.old out.new operand_stack.new call_stack.new memory.new }
 {
-    let answered = host::write(
-        Eval {
+    let mut eval = Eval {
+        state: State {
             next_operator,
             operand_depth,
             call_depth,
             effect,
             effect_operator,
         },
-        Script {
+        counts: Counts {
             operators: operator_count,
             labels: label_count,
         },
-        text,
-        operators,
-        labels,
+        script: Script {
+            text,
+            operators,
+            labels,
+        },
         operand_stack,
         call_stack,
         memory,
-        address,
-        word,
-    );
-    let after = answered.eval;
-    *out = [
-        answered.number as u64,
-        answered.value as u64,
-        answered.steps as u64,
-        after.next_operator as u64,
-        after.operand_depth as u64,
-        after.call_depth as u64,
-        after.effect as u64,
-        after.effect_operator as u64,
-    ];
+    };
+    let answer = eval.write(address, word).into();
+    *out = written(answer, eval.state);
 }

@@ -2,11 +2,14 @@
 ghost use Rattle.stack_assembly.specs.Run.{push_call, pop_call};
 ghost use Rattle.stack_assembly_c.specs.Boundary.{state_of, tables_of, CalledFromC};
 
+use crate::out::written;
+use eval::{Eval, State};
+use records::Counts;
 use script::Script;
-use state::Eval;
 
+/// Pushes an operand; `out` is number, value, 0 steps, and the state.
 #[unsafe(no_mangle)]
-pub extern "C" fn stack_assembly_push(
+pub extern "C" fn stack_assembly_push<'a>(
     next_operator: u32,
     operand_depth: usize,
     call_depth: usize,
@@ -14,52 +17,45 @@ pub extern "C" fn stack_assembly_push(
     effect_operator: u32,
     operator_count: usize,
     label_count: usize,
-    text: &[u8],
-    operators: &[u32],
-    labels: &[u32],
-    operand_stack: &mut [u32],
-    call_stack: &mut [u32],
-    memory: &mut [u32],
+    text: &'a [u8],
+    operators: &'a [u32],
+    labels: &'a [u32],
+    operand_stack: &'a mut [u32],
+    call_stack: &'a mut [u32],
+    memory: &'a mut [u32],
     word: u32,
     out: &mut [u64; 8],
 )
     ensures { CalledFromC (push_call word) (state_of next_operator operand_depth call_depth effect effect_operator) (tables_of operator_count label_count text.now operators.now labels.now) operand_stack.old call_stack.old memory.old out.new operand_stack.new call_stack.new memory.new }
 {
-    let answered = host::push(
-        Eval {
+    let mut eval = Eval {
+        state: State {
             next_operator,
             operand_depth,
             call_depth,
             effect,
             effect_operator,
         },
-        Script {
+        counts: Counts {
             operators: operator_count,
             labels: label_count,
         },
-        text,
-        operators,
-        labels,
+        script: Script {
+            text,
+            operators,
+            labels,
+        },
         operand_stack,
         call_stack,
         memory,
-        word,
-    );
-    let after = answered.eval;
-    *out = [
-        answered.number as u64,
-        answered.value as u64,
-        answered.steps as u64,
-        after.next_operator as u64,
-        after.operand_depth as u64,
-        after.call_depth as u64,
-        after.effect as u64,
-        after.effect_operator as u64,
-    ];
+    };
+    let answer = eval.push(word).into();
+    *out = written(answer, eval.state);
 }
 
+/// Pops an operand; `out` is number, the word, 0 steps, and the state.
 #[unsafe(no_mangle)]
-pub extern "C" fn stack_assembly_pop(
+pub extern "C" fn stack_assembly_pop<'a>(
     next_operator: u32,
     operand_depth: usize,
     call_depth: usize,
@@ -67,44 +63,37 @@ pub extern "C" fn stack_assembly_pop(
     effect_operator: u32,
     operator_count: usize,
     label_count: usize,
-    text: &[u8],
-    operators: &[u32],
-    labels: &[u32],
-    operand_stack: &mut [u32],
-    call_stack: &mut [u32],
-    memory: &mut [u32],
+    text: &'a [u8],
+    operators: &'a [u32],
+    labels: &'a [u32],
+    operand_stack: &'a mut [u32],
+    call_stack: &'a mut [u32],
+    memory: &'a mut [u32],
     out: &mut [u64; 8],
 )
     ensures { CalledFromC pop_call (state_of next_operator operand_depth call_depth effect effect_operator) (tables_of operator_count label_count text.now operators.now labels.now) operand_stack.old call_stack.old memory.old out.new operand_stack.new call_stack.new memory.new }
 {
-    let answered = host::pop(
-        Eval {
+    let mut eval = Eval {
+        state: State {
             next_operator,
             operand_depth,
             call_depth,
             effect,
             effect_operator,
         },
-        Script {
+        counts: Counts {
             operators: operator_count,
             labels: label_count,
         },
-        text,
-        operators,
-        labels,
+        script: Script {
+            text,
+            operators,
+            labels,
+        },
         operand_stack,
         call_stack,
         memory,
-    );
-    let after = answered.eval;
-    *out = [
-        answered.number as u64,
-        answered.value as u64,
-        answered.steps as u64,
-        after.next_operator as u64,
-        after.operand_depth as u64,
-        after.call_depth as u64,
-        after.effect as u64,
-        after.effect_operator as u64,
-    ];
+    };
+    let answer = eval.pop().into();
+    *out = written(answer, eval.state);
 }

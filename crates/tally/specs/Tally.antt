@@ -1,5 +1,8 @@
 -- What tally prints: an answer, then the operands.
-use Rattle.std.specs.Prelude.{ℕ, zero, suc, List, [], length, take, ◌≡◌, ◌≤◌}
+use Rattle.std.specs.Prelude.{ℕ, zero, suc, List, [], ◌∷◌, ◌++◌, ◌≡◌, length, reverse}
+use Rattle.std.specs.List.{flat_map}
+use Rattle.std.specs.Fmt.{signed_decimal}
+use Rattle.std.specs.Int.{w32, cast_signed}
 use Rattle.stack_assembly.specs.Answer.{Answer, answer}
 use Rattle.stack_assembly.specs.Script.{CompileAnswer, compile}
 use Rattle.stack_assembly.specs.Machine.{Done}
@@ -7,8 +10,9 @@ use Rattle.stack_assembly.specs.Run.{run_call}
 use Rattle.stack_assembly.specs.Host.{live}
 use Rattle.stack_assembly.specs.Promise.{defined}
 use Rattle.stack_assembly.specs.Evaluator.{Buffers, begun}
-use Rattle.state.specs.Lends.{answer_of}
-use Rattle.state.specs.declared.state.Answered.{Answered}
+use Rattle.eval.specs.Lends.{answer_of}
+use Rattle.eval.specs.Text.{answer_text}
+use Rattle.tally.specs.declared.tally.Tally.{Tally}
 
 -- The operands have their top first.
 pub record Printed : Type 0 where
@@ -26,11 +30,25 @@ tally text b =
     let a : CompileAnswer = (compile text b.operators b.labels).answer in
     printed a.number a.value (defined (run_call 1000000) (begun text b))
 
--- `&xs[..n]` is in bounds and has n words.
-abbrev pub IsPrefixLen : ℕ → List ℕ → Type 0
-IsPrefixLen n xs = (n ≤ length xs) × (n ≡ length (take n xs))
+-- ---- as text
 
--- The answer that is printed, and the words of the operand stack up to its depth.
-pub record Tallies (text : List ℕ) (b : Buffers) (r : Answered) (operand_stack : List ℕ) : Type 0 where
-  pub prints : record { answer = answer_of r; operands = live r.eval.operand_depth operand_stack } ≡ tally text b
-  pub holds : IsPrefixLen r.eval.operand_depth operand_stack
+-- An operand, as a signed number on a line of its own.
+abbrev pub line_of : (word : ℕ) → List ℕ
+line_of word = signed_decimal (cast_signed w32 word) ++ 10 ∷ []
+
+-- The answer on a line, then the operands from the bottom up.
+abbrev pub text_of : Answer → (operands : List ℕ) → List ℕ
+text_of a operands = answer_text a ++ 10 ∷ flat_map line_of operands
+
+abbrev pub printed_text : Printed → List ℕ
+printed_text p = text_of p.answer (reverse p.operands)
+
+-- ---- what the code prints
+
+abbrev pub printed_by : Tally → Printed
+printed_by t = record { answer = answer_of t.answer; operands = live (length t.operands.now) t.operands.now }
+
+-- It is what is defined, and so is its text.
+pub record Tallies (text : List ℕ) (b : Buffers) (t : Tally) : Type 0 where
+  pub printed : printed_by t ≡ tally text b
+  pub text_is : text_of (answer_of t.answer) t.operands.now ≡ printed_text (tally text b)

@@ -1,43 +1,42 @@
-// Tables that are just large enough or too small, filled with nines at first, and texts about as long as may be.
+// Tables that are just large enough or too small, and texts about as long as may be.
 use crate::show;
+use compile::LONGEST_TEXT;
 use std::io;
 
+// No heap: tables of fixed sizes, here and below.
+/// Tables with a word too few for their records, or with none to spare.
 pub(crate) fn tables(rt: &impl Print) -> io::Result<()> {
-    let mut eight = [9u32; 8];
-    let mut nine = [9u32; 9];
-    let mut ten = [9u32; 10];
-    let mut eleven = [9u32; 11];
-    let mut twelve = [9u32; 12];
-    let mut thirteen = [9u32; 13];
-    show::tables(rt, b"a: 1 b: 2 c: 3", &mut eleven, &mut eight)?;
-    show::tables(rt, b"a: 1 b: 2 c: 3", &mut eleven, &mut nine)?;
-    show::tables(rt, b"a: 1 b: 2 c: 3", &mut twelve, &mut eight)?;
-    show::tables(rt, b"a: 1 b: 2 c: 3 \xFF", &mut eleven, &mut eight)?;
-    show::tables(rt, b"a: 1 b: 2 c: 3", &mut twelve, &mut nine)?;
-    show::tables(rt, b"a: 1 b: 2 c: @a", &mut thirteen, &mut ten)?;
-    show::tables(rt, b"a: b", &mut thirteen, &mut ten)
+    show::tables(rt, b"a: 1 b: 2 c: 3", &mut [9; 11], &mut [9; 8])?;
+    show::tables(rt, b"a: 1 b: 2 c: 3", &mut [9; 11], &mut [9; 9])?;
+    show::tables(rt, b"a: 1 b: 2 c: 3", &mut [9; 12], &mut [9; 8])?;
+    show::tables(rt, b"a: 1 b: 2 c: 3 \xFF", &mut [9; 11], &mut [9; 8])?;
+    show::tables(rt, b"a: 1 b: 2 c: 3", &mut [9; 12], &mut [9; 9])?;
+    // A second text in the same tables: what it does not write stays.
+    let mut operators = [9; 13];
+    let mut labels = [9; 10];
+    show::tables(rt, b"a: 1 b: 2 c: @a", &mut operators, &mut labels)?;
+    show::tables(rt, b"a: b", &mut operators, &mut labels)
 }
 
+/// No word for a table at all.
 pub(crate) fn no_tables(rt: &impl Print) -> io::Result<()> {
-    let mut operators: [u32; 0] = [];
-    let mut labels: [u32; 0] = [];
-    show::tables(rt, b"", &mut operators, &mut labels)?;
-    show::tables(rt, b"# 1", &mut operators, &mut labels)?;
-    show::tables(rt, b"1", &mut operators, &mut labels)?;
-    show::tables(rt, b"a:", &mut operators, &mut labels)?;
-    show::tables(rt, b"1 a:", &mut operators, &mut labels)?;
-    show::tables(rt, b"1 a: \xFF", &mut operators, &mut labels)
+    show::tables(rt, b"", &mut [9; 0], &mut [9; 0])?;
+    show::tables(rt, b"# 1", &mut [9; 0], &mut [9; 0])?;
+    show::tables(rt, b"1", &mut [9; 0], &mut [9; 0])?;
+    show::tables(rt, b"a:", &mut [9; 0], &mut [9; 0])?;
+    show::tables(rt, b"1 a:", &mut [9; 0], &mut [9; 0])?;
+    show::tables(rt, b"1 a: \xFF", &mut [9; 0], &mut [9; 0])
 }
 
-// 65,535 bytes, a comment up to the last but one, and one byte more; the texts themselves are not printed.
+/// The longest text, a comment up to its last byte but one, and a byte more than it may have; the texts themselves are not printed.
 pub(crate) fn long_texts(rt: &impl Print) -> io::Result<()> {
-    let mut operators = [9u32; 4];
-    let mut labels = [9u32; 3];
-    let mut longest = [0x23u8; 65535];
-    longest[65533] = 0x0A;
-    longest[65534] = 0x31;
+    let mut operators = [9; 4];
+    let mut labels = [9; 3];
+    let mut longest = [b'#'; LONGEST_TEXT];
+    longest[LONGEST_TEXT - 2] = b'\n';
+    longest[LONGEST_TEXT - 1] = b'1';
     show::compiled(rt, &longest, &mut operators, &mut labels)?;
-    show::compiled(rt, &[0xFFu8; 65535], &mut operators, &mut labels)?;
-    show::compiled(rt, &[0x20u8; 65536], &mut operators, &mut labels)?;
-    show::compiled(rt, &[0xFFu8; 65536], &mut operators, &mut labels)
+    show::compiled(rt, &[0xFF; LONGEST_TEXT], &mut operators, &mut labels)?;
+    show::compiled(rt, &[b' '; LONGEST_TEXT + 1], &mut operators, &mut labels)?;
+    show::compiled(rt, &[0xFF; LONGEST_TEXT + 1], &mut operators, &mut labels)
 }

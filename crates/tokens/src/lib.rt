@@ -1,8 +1,12 @@
-// What `Script::compile` does with `char_indices`: the tokens of a text.
+// The tokens of a text, which `Script::compile` finds by `char_indices`.
 #![tactic(auto)]
 
-mod reader;
+mod first;
+mod plain;
+mod scan;
 mod tokens;
+mod worked_examples;
 
-pub use reader::{Reader, read_token};
-pub use tokens::Next;
+pub use first::Token;
+pub use tokens::Tokens;
+pub use worked_examples::examples_hold;

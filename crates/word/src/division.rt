@@ -1,66 +1,34 @@
-// The signed division, through the unsigned one.
-ghost use Rattle.std.specs.Prelude.{◌≡◌, ◌<◌};
-ghost use Rattle.word.specs.Word.{quotient, remainder, divide};
-ghost use Rattle.word.specs.Answers.{with_sign_of, division_of};
+// The signed division of words.
+ghost use Rattle.std.specs.Prelude.{◌≡◌};
+ghost use Rattle.word.specs.Word.{divide};
+ghost use Rattle.word.specs.Answers.{division_of};
 
-use crate::arithmetic::wrapping_sub;
+const LEAST: u32 = 1 << 31;
 
-// What a division answers.
-#[derive(Drop)]
-pub enum Division {
+const MINUS_ONE: u32 = u32::MAX;
+
+/// Why two words have no quotient.
+#[derive(Clone, Copy, PartialEq, Eq, Debug)]
+pub enum DivisionError {
+    /// By zero.
     ByZero,
+    /// Of -2147483648 by -1: no word holds 2147483648.
     Overflow,
-    Parts { quotient: u32, remainder: u32 },
 }
 
-// x where a is not negative, else -x.
-#[tactic(auto, unfolding(crate::specs::Answers::with_sign_of))]
-fn with_sign_of(a: u32, x: u32) -> u32
-    ensures { result ≡ with_sign_of a x }
-{
-    if a < 0x8000_0000 {
-        x
-    } else {
-        wrapping_sub(0, x)
-    }
-}
-
-// The size of a signed word.
-fn magnitude(a: u32) -> u32
-    ensures { result ≡ with_sign_of a a }
-{
-    with_sign_of(a, a)
-}
-
-// Rounded toward zero.
-fn quotient(a: u32, b: u32) -> u32
-    requires { 0 < b }
-    ensures { result ≡ quotient a b }
-{
-    with_sign_of(b, with_sign_of(a, magnitude(a) / magnitude(b)))
-}
-
-// With the sign of a.
-fn remainder(a: u32, b: u32) -> u32
-    requires { 0 < b }
-    ensures { result ≡ remainder a b }
-{
-    with_sign_of(a, magnitude(a) % magnitude(b))
-}
-
-#[tactic(auto, unfolding(crate::specs::Word::divide))]
-pub fn divide(a: u32, b: u32) -> Division
+/// The quotient, rounded toward zero, and the remainder, which has the sign of `a`.
+#[inline(always)]
+#[tactic(auto, unfolding(crate::specs::Word::divide), using(crate::proofs::Casts::quotient_kept, crate::proofs::Casts::remainder_kept))]
+pub fn divide(a: u32, b: u32) -> Result<(u32, u32), DivisionError>
     ensures { division_of result ≡ divide a b }
 {
     if b == 0 {
-        return Division::ByZero;
+        return Err(DivisionError::ByZero);
     }
-    // -2147483648 by -1: no word holds 2147483648.
-    if a == 0x8000_0000 && b == 0xffff_ffff {
-        return Division::Overflow;
+    if a == LEAST && b == MINUS_ONE {
+        return Err(DivisionError::Overflow);
     }
-    Division::Parts {
-        quotient: quotient(a, b),
-        remainder: remainder(a, b),
-    }
+    let a = a.cast_signed();
+    let b = b.cast_signed();
+    Ok(((a / b).cast_unsigned(), (a % b).cast_unsigned()))
 }

@@ -1,8 +1,10 @@
-// Arithmetic on words, as Rust's i32 and u32 gave it: each function gives what its definition in specs/Word.antt says. The other definitions there are for the crates order and bits.
+// Products and the signed division of words, as Rust's i32 gave them. The other definitions in specs/Word.antt are for the crates bits and machine.
 #![tactic(auto)]
 
 mod arithmetic;
 mod division;
+mod worked_examples;
 
-pub use arithmetic::{wrapping_add, wrapping_mul, wrapping_sub};
-pub use division::{Division, divide};
+pub use arithmetic::wrapping_mul;
+pub use division::{DivisionError, divide};
+pub use worked_examples::examples_hold;

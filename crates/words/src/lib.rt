@@ -1,6 +1,10 @@
-// The 30 words of the language, looked up by name.
+// The 30 words of the language: one constant table, looked up by name.
 #![tactic(auto)]
 
-mod rows;
+mod fetched;
+mod same;
+mod table;
+mod word;
 
-pub use rows::find;
+pub use fetched::Fetched;
+pub use word::Word;

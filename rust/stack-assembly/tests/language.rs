@@ -128,7 +128,7 @@ fn every_example() {
 
 #[test]
 fn every_word() {
-    let definition = repository("crates/stack_assembly/specs/Words.antt");
+    let definition = repository("crates/words/specs/Words.antt");
     let words: Vec<&str> = definition.split("row \"").skip(1).map(|row| row.split('"').next().unwrap()).collect();
     assert!(!words.is_empty(), "the definition has no word");
     let texts: Vec<Vec<u8>> = examples().into_iter().map(|example| example.text).collect();

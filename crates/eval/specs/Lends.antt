@@ -1,0 +1,94 @@
+-- What a call is lent, by the definition.
+use Rattle.std.specs.Prelude.{◌≡◌, ◌≤◌, ◌*◌, false, length}
+use Rattle.stack_assembly.specs.Answer as answer
+use Rattle.stack_assembly.specs.Script.{Tables}
+use Rattle.stack_assembly.specs.Host as host
+use Rattle.stack_assembly.specs.Host.{forged}
+use Rattle.store.specs.Effects.{effect_number}
+use Rattle.machine.specs.declared.machine.Machine.{Machine}
+use Rattle.eval.specs.declared.state.State.{State}
+use Rattle.eval.specs.declared.answer.Answer.{Answer}
+use Rattle.eval.specs.declared.eval.Eval.{Eval}
+
+abbrev pub state_of : State → host.State
+state_of s =
+    record {
+      next = s.next_operator;
+      operand_depth = s.operand_depth;
+      call_depth = s.call_depth;
+      effect = s.effect;
+      effect_operator = s.effect_operator;
+    }
+
+abbrev pub lent_of : Eval → host.Lent
+lent_of e =
+    record {
+      state = state_of e.state;
+      tables = record {
+        text = e.script.text.now;
+        operators = e.script.operators.now;
+        labels = e.script.labels.now;
+        operator_count = e.counts.operators;
+        label_count = e.counts.labels;
+      };
+      operand_stack = e.operand_stack.now;
+      call_stack = e.call_stack.now;
+      memory = e.memory.now;
+    }
+
+abbrev pub answer_of : Answer → answer.Answer
+answer_of a = answer.answer a.number a.value a.steps
+
+-- the same script, in the same buffers
+pub record SameLent (a b : Eval) : Type 0 where
+  pub counts : b.counts ≡ a.counts
+  pub script : b.script ≡ a.script
+  pub operand_stack : b.operand_stack.ghost_name ≡ a.operand_stack.ghost_name
+  pub call_stack : b.call_stack.ghost_name ≡ a.call_stack.ghost_name
+  pub memory : b.memory.ghost_name ≡ a.memory.ghost_name
+
+-- ---- the machine that a call works on
+
+abbrev pub tables_of : Eval → Tables
+tables_of e = (lent_of e).tables
+
+abbrev pub state_left : Machine → State
+state_left m =
+    record {
+      next_operator = m.next;
+      operand_depth = m.operands.stack.depth;
+      call_depth = m.calls.stack.depth;
+      effect = effect_number m.effect;
+      effect_operator = m.effect_operator;
+    }
+
+-- what a machine holds, as a host lends it
+abbrev pub left : Tables → Machine → host.Lent
+left t m =
+    record {
+      state = state_of (state_left m);
+      tables = t;
+      operand_stack = m.operands.stack.words.now;
+      call_stack = m.calls.stack.words.now;
+      memory = m.memory.words.now;
+    }
+
+-- it has the state and the buffers, and the counts are within the tables
+pub record Taken (a : Eval) (m : Machine) (b : Eval) : Type 0 where
+  pub unforged : forged (lent_of a) ≡ false
+  pub state : state_left m ≡ a.state
+  pub operand_stack : m.operands.stack.words ≡ a.operand_stack
+  pub call_stack : m.calls.stack.words ≡ a.call_stack
+  pub memory : m.memory.words ≡ a.memory
+  pub counts : b.counts ≡ a.counts
+  pub script : b.script ≡ a.script
+  pub operators : 4 * b.counts.operators ≤ length b.script.operators.now
+  pub labels : 3 * b.counts.labels ≤ length b.script.labels.now
+
+pub record PutBack (a : Eval) (m : Machine) (b : Eval) : Type 0 where
+  pub state : b.state ≡ state_left m
+  pub operand_stack : b.operand_stack ≡ m.operands.stack.words
+  pub call_stack : b.call_stack ≡ m.calls.stack.words
+  pub memory : b.memory ≡ m.memory.words
+  pub counts : b.counts ≡ a.counts
+  pub script : b.script ≡ a.script

@@ -1,3 +1,0 @@
--- The next operator as a code.
-pub mod Codes
-pub mod Private

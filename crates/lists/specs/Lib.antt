@@ -1,2 +1,0 @@
--- What the contract of the comparison cites.
-pub mod Tells

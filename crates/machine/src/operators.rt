@@ -1,0 +1,126 @@
+// Operators that do more than to put one result in the place of their operands.
+ghost use Rattle.stack_assembly.specs.Words as word;
+ghost use Rattle.stack_assembly.specs.Operators.{evaluated};
+ghost use Rattle.machine.specs.Outcomes.{store_of, room_of, Comes};
+
+use crate::machine::Machine;
+use store::{Effect, Stop};
+use word::divide;
+
+impl Machine<'_> {
+    #[inline(always)]
+    pub(crate) fn copy(&mut self) -> Result<(), Stop>
+        ensures { Comes (evaluated (room_of self.old) word.copy (store_of self.old)) result self.old self.new }
+    {
+        let index = self.operands.pop()? as usize;
+        let value = self
+            .operands
+            .get(index)
+            .ok_or(Effect::InvalidOperandStackIndex)?;
+        self.operands.place(value);
+        Ok(())
+    }
+
+    #[inline(always)]
+    pub(crate) fn drop(&mut self) -> Result<(), Stop>
+        ensures { Comes (evaluated (room_of self.old) word.drop (store_of self.old)) result self.old self.new }
+    {
+        let index = self.operands.pop()? as usize;
+        self.operands
+            .remove(index)
+            .ok_or(Effect::InvalidOperandStackIndex)?;
+        Ok(())
+    }
+
+    #[inline(always)]
+    pub(crate) fn div(&mut self) -> Result<(), Stop>
+        ensures { Comes (evaluated (room_of self.old) word.div (store_of self.old)) result self.old self.new }
+    {
+        let b = self.operands.pop()?;
+        let a = self.operands.pop()?;
+        let (quotient, remainder) = divide(a, b)?;
+        self.operands.place(quotient);
+        self.operands.place(remainder);
+        Ok(())
+    }
+
+    #[inline(always)]
+    pub(crate) fn read(&mut self) -> Result<(), Stop>
+        ensures { Comes (evaluated (room_of self.old) word.read (store_of self.old)) result self.old self.new }
+    {
+        let address = self.operands.pop()?;
+        let value = self.memory.read(address)?;
+        self.operands.place(value);
+        Ok(())
+    }
+
+    #[inline(always)]
+    pub(crate) fn write(&mut self) -> Result<(), Stop>
+        ensures { Comes (evaluated (room_of self.old) word.write (store_of self.old)) result self.old self.new }
+    {
+        let value = self.operands.pop()?;
+        let address = self.operands.pop()?;
+        self.memory.write(address, value)?;
+        Ok(())
+    }
+
+    #[inline(always)]
+    pub(crate) fn jump(&mut self) -> Result<(), Stop>
+        ensures { Comes (evaluated (room_of self.old) word.jump (store_of self.old)) result self.old self.new }
+    {
+        self.next = self.operands.pop()?;
+        Ok(())
+    }
+
+    #[inline(always)]
+    pub(crate) fn jump_if(&mut self) -> Result<(), Stop>
+        ensures { Comes (evaluated (room_of self.old) word.jump_if (store_of self.old)) result self.old self.new }
+    {
+        let index = self.operands.pop()?;
+        let condition = self.operands.pop()?;
+        if condition != 0 {
+            self.next = index;
+        }
+        Ok(())
+    }
+
+    #[inline(always)]
+    pub(crate) fn call(&mut self) -> Result<(), Stop>
+        ensures { Comes (evaluated (room_of self.old) word.call (store_of self.old)) result self.old self.new }
+    {
+        self.calls.push(self.next)?;
+        self.next = self.operands.pop()?;
+        Ok(())
+    }
+
+    #[inline(always)]
+    pub(crate) fn call_either(&mut self) -> Result<(), Stop>
+        ensures { Comes (evaluated (room_of self.old) word.call_either (store_of self.old)) result self.old self.new }
+    {
+        self.calls.push(self.next)?;
+        let else_ = self.operands.pop()?;
+        let then = self.operands.pop()?;
+        let condition = self.operands.pop()?;
+        self.next = if condition != 0 { then } else { else_ };
+        Ok(())
+    }
+
+    #[inline(always)]
+    pub(crate) fn return_(&mut self) -> Result<(), Stop>
+        ensures { Comes (evaluated (room_of self.old) word.return (store_of self.old)) result self.old self.new }
+    {
+        self.next = self.calls.pop().ok_or(Effect::Return)?;
+        Ok(())
+    }
+
+    #[inline(always)]
+    pub(crate) fn assert(&mut self) -> Result<(), Stop>
+        ensures { Comes (evaluated (room_of self.old) word.assert (store_of self.old)) result self.old self.new }
+    {
+        let condition = self.operands.pop()?;
+        if condition == 0 {
+            return Err(Stop::Raised(Effect::AssertionFailed));
+        }
+        Ok(())
+    }
+}

@@ -1,0 +1,95 @@
+// Runs: the operators of a script, one after the other.
+
+ghost use Rattle.std.specs.Prelude.{◌≡◌, ◌+◌, ◌<◌, ◌^◌, false, None};
+ghost use Rattle.machine.specs.Steps.{counted_by};
+ghost use Rattle.machine.specs.Runs.{Runs, RunsAhead, IsEnded};
+
+use crate::machine::Machine;
+use crate::steps::Ended;
+use script::Operators;
+use store::Refusal;
+
+/// How a run ended, and the steps that it made.
+#[derive(Clone, Copy, PartialEq, Eq, Debug)]
+pub struct Ran {
+    pub ended: Ended,
+    pub steps: u32,
+}
+
+/// How a run ended that may not go back.
+#[derive(Clone, Copy, PartialEq, Eq, Debug)]
+pub enum Ahead {
+    Ended(Ran),
+    /// The next operator stands no later than the last; so many steps were made.
+    TurnedBack(u32),
+}
+
+// A run that ends in its next step; a refused one does not count.
+#[inline(always)]
+fn ended(before: u32, ended: Ended) -> Ran
+    requires { before + 1 < 2 ^ 32 }
+    ensures { result ≡ record { ended = ended; steps = before + counted_by ended } }
+{
+    Ran {
+        ended,
+        steps: before + ended.steps(),
+    }
+}
+
+impl Machine<'_> {
+    // That no effect stands is asked here, in `run_on` and in `advance`: it is one test before the loop, and none in each step.
+    // Steps until one ends the run, the budget is used, or, if it is to run only ahead, the next operator stands no later than the last: up to there none is
+    // met twice.
+    #[inline(always)]
+    fn make_steps<S: Operators, const AHEAD: bool>(&mut self, script: &mut S, budget: u32) -> Ahead
+        requires { self.old.effect ≡ None }
+        ensures ran { RunsAhead (S.told script.old) budget result self.old self.new }
+        ensures script { S.told script.new ≡ S.told script.old }
+        ensures ended { AHEAD ≡ false → IsEnded result }
+    {
+        for step in 0..budget {
+            let at = self.next;
+            if let Err(end) = self.advance(script) {
+                return Ahead::Ended(ended(step, end));
+            }
+            if AHEAD && self.next <= at {
+                return Ahead::TurnedBack(step + 1);
+            }
+        }
+        Ahead::Ended(Ran {
+            ended: Ended::Refused(Refusal::BudgetUsed(self.next)),
+            steps: budget,
+        })
+    }
+
+    /// Steps until one ends the run, or the budget is used.
+    #[inline(always)]
+    pub fn run_on<S: Operators>(&mut self, script: &mut S, budget: u32) -> Ran
+        requires { self.old.effect ≡ None }
+        ensures ran { Runs (S.told script.old) budget result self.old self.new }
+        ensures script { S.told script.new ≡ S.told script.old }
+    {
+        match self.make_steps::<S, false>(script, budget) {
+            Ahead::Ended(ran) => ran,
+            Ahead::TurnedBack(_) => unreachable!(),
+        }
+    }
+
+    /// A run, up to where it turns back.
+    #[inline(always)]
+    pub fn run_ahead<S: Operators>(&mut self, script: &mut S, budget: u32) -> Ahead
+        ensures ran { RunsAhead (S.told script.old) budget result self.old self.new }
+        ensures script { S.told script.new ≡ S.told script.old }
+    {
+        if let Some(effect) = self.effect {
+            if budget == 0 {
+                return Ahead::Ended(Ran {
+                    ended: Ended::Refused(Refusal::BudgetUsed(self.next)),
+                    steps: 0,
+                });
+            }
+            return Ahead::Ended(ended(0, self.stand(effect)));
+        }
+        self.make_steps::<S, true>(script, budget)
+    }
+}

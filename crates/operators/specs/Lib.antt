@@ -1,3 +1,0 @@
--- What the operators' contracts cite beside the definition.
-pub mod Outcomes
-pub mod Private

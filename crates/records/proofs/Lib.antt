@@ -1,0 +1,2 @@
+-- What is proved of the records of a table.
+pub mod Tables

@@ -1,0 +1,12 @@
+//! The records that stand in a script's tables of words: what compile writes, and what a step reads.
+#![tactic(auto)]
+
+mod counts;
+mod label;
+mod operator;
+mod record;
+
+pub use counts::Counts;
+pub use label::LabelRecord;
+pub use operator::{OperatorKind, OperatorRecord};
+pub use record::{Damaged, Record};

@@ -1,2 +1,0 @@
--- What the contracts over a state cite beside the definition.
-pub mod Lends

@@ -1,3 +1,0 @@
--- Steps.
-pub mod Runs
-pub mod Private

@@ -1,0 +1,3 @@
+-- What is promised of the stacks, the memory and the effects.
+pub mod Stacks
+pub mod Effects

@@ -1,0 +1,57 @@
+// A linear memory, addressable per word.
+
+use crate::effect::Effect;
+use crate::refusal::Stop;
+
+/// An address at or above the memory's length.
+#[derive(Clone, Copy, PartialEq, Eq, Debug)]
+pub struct InvalidAddress;
+
+impl From<InvalidAddress> for Stop {
+    ghost use Rattle.std.specs.Prelude.{◌≡◌};
+    ghost use Rattle.store.specs.declared.refusal.Stop.TheVariants.{Raised};
+    ghost use Rattle.store.specs.declared.effect.Effect.TheVariants as effect;
+
+    ghost from_gives = { λ _ s. s ≡ Raised effect.InvalidAddress };
+
+    #[inline(always)]
+    fn from(_: InvalidAddress) -> Stop {
+        Stop::Raised(Effect::InvalidAddress)
+    }
+}
+
+/// A memory in a lent buffer: addresses count its words.
+#[derive(Drop)]
+pub struct Memory<'a> {
+    pub words: &'a mut [u32],
+}
+
+impl<'a> Memory<'a> {
+    ghost use Rattle.std.specs.Prelude.{◌≡◌, ◌<◌, ◌≤◌, length, MatchResult, get_or, set};
+    ghost use Rattle.store.specs.Stacks.{SameWords};
+
+    /// The word at an address.
+    #[inline(always)]
+    pub fn read(&self, address: u32) -> Result<u32, InvalidAddress>
+        ensures { MatchResult result (λ x. (address < length self.now.words.now) × (get_or self.now.words.now address 0 ≡ x)) (λ _. length self.now.words.now ≤ address) }
+    {
+        self.words
+            .get(address as usize)
+            .copied()
+            .ok_or(InvalidAddress)
+    }
+
+    /// Sets the word at an address; where there is none, nothing.
+    #[inline(always)]
+    pub fn write(&mut self, address: u32, value: u32) -> Result<(), InvalidAddress>
+        ensures same { SameWords self.old self.new }
+        ensures value { MatchResult result (λ _. (address < length self.old.words.now) × (self.new.words.now ≡ set self.old.words.now address value)) (λ _. (length self.old.words.now ≤ address) × (self.new ≡ self.old)) }
+    {
+        let address = address as usize;
+        if address >= self.words.len() {
+            return Err(InvalidAddress);
+        }
+        self.words[address] = value;
+        Ok(())
+    }
+}
