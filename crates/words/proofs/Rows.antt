@@ -1,10 +1,9 @@
 -- Each word's name is in the table at one of its two places, and tells the word: computed tests of the 30 rows.
-use Rattle.std.proofs.Common.{◌≡◌, ℕ, ◌<◌, ◌≤◌, ◌≢◌, arith, Bool, true, false, ◌&&◌, List, [], ◌∷◌, length, get_or, refl, sym, ◌∙◌, Option, Some, None}
+use Rattle.std.proofs.Common.{◌≡◌, ℕ, ◌<◌, ◌≢◌, arith, Bool, true, false, ◌&&◌, List, [], ◌∷◌, length, get_or, refl, sym, ◌∙◌, Option, Some, None}
 use Rattle.std.proofs.lemmas.Bool.{and_parts}
 use Rattle.std.specs.Prelude.{map, ◌||◌, bit_xor}
 use Rattle.std.proofs.lemmas.List.{get_or-map}
-use Rattle.base.proofs.Tests.{cond_by, absurd_bool, all-at, within_true}
-use Rattle.base.specs.Ranges.{within}
+use Rattle.base.proofs.Tests.{cond_by, absurd_bool}
 use Rattle.names.specs.Names.{same_bytes}
 use Rattle.names.proofs.Same.{same-equal}
 use Rattle.words.specs.declared.table.TheConstants.{WORDS}
@@ -78,11 +77,6 @@ known assert = refl
 known yield = refl
 
 -- ---- the name of a row
-
-pub row_fits : (i : ℕ) (d : code.Row) → i < 30 → (1 ≤ (get_or WORDS i d).length) × ((get_or WORDS i d).length ≤ 15)
-row_fits i d h =
-    rw (← get_or-map (λ (r : code.Row). r.length) WORDS i d 0 h)
-    (within_true 1 15 _ (all-at (λ (i : ℕ). within 1 15 (get_or (map (λ (r : code.Row). r.length) WORDS) i 0)) 30 refl i h))
 
 pub spelled_is : (w : Word) (i : ℕ) (d : code.Row) → i ≡ number w → own_name (get_or WORDS i d) ≡ spelled w
 unfolding spelled
