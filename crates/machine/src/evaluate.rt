@@ -22,6 +22,7 @@ fn yields() -> Result<(), Stop>
 impl Machine<'_> {
     // One operand and one result.
     #[inline(always)]
+    #[tactic(auto, unfolding(stack_assembly::specs::Operators::unary, stack_assembly::specs::Machine::pop_from))]
     fn unary<F: FnOnce(u32) -> u32>(&mut self, f: F) -> Result<(), Stop>
         requires { F.IsAlwaysCallable f }
         ensures { (g : ℕ → ℕ) → ((a c : ℕ) → a < 2 ^ 32 → F.post f a c → c ≡ g a) → Comes (unary g (store_of self.old)) result self.old self.new }
@@ -33,6 +34,7 @@ impl Machine<'_> {
 
     // Two operands and one result.
     #[inline(always)]
+    #[tactic(auto, unfolding(stack_assembly::specs::Operators::binary, stack_assembly::specs::Machine::pop_from))]
     fn binary<F: FnOnce(u32, u32) -> u32>(&mut self, f: F) -> Result<(), Stop>
         requires { F.IsAlwaysCallable f }
         ensures { (g : ℕ → ℕ → ℕ) → ((a b c : ℕ) → a < 2 ^ 32 → b < 2 ^ 32 → F.post f a b c → c ≡ g a b) → Comes (binary g (store_of self.old)) result self.old self.new }
@@ -43,9 +45,10 @@ impl Machine<'_> {
         Ok(())
     }
 
-    // Evaluates the operator at a place. It is generic with where the operators come from, so that each kind of run has the match to itself: LLVM then
+    // Evaluates the operator at an index. It is generic with where the operators come from, so that each kind of run has the match to itself: LLVM then
     // puts it into the loop. With a function of its own for the words, a step took 34.6 instructions for 33.1.
     #[inline(always)]
+    #[tactic(auto, unfolding(stack_assembly::specs::Step::outcome, stack_assembly::specs::Step::pushed, stack_assembly::specs::Operators::evaluated, word::specs::Word::less, word::specs::Word::at_most, word::specs::Word::shifted_right))]
     pub(crate) fn evaluate<S: Operators>(&mut self, script: &mut S, at: u32) -> Result<(), Stop>
         ensures comes { Comes (outcome (room_of self.old) (fetched (S.told script.old) at) (store_of self.old)) result self.old self.new }
         ensures script { S.told script.new ≡ S.told script.old }

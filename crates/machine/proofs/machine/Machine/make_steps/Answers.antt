@@ -18,7 +18,7 @@ pub loop-step-preserved : goal.loop-step-preserved
 loop-step-preserved g c =
     record {
       going = going_on c.loop-step.invariant.going (omega arith) (rw c.loop-step.invariant.script at c.in_default.ensures.stepped);
-      effect = c.in_default.ensures.effect;
+      effect = λ _. c.in_default.ensures.effect;
       script = c.advance.ensures.script ∙ c.loop-step.invariant.script;
     }
 
