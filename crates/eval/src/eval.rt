@@ -34,16 +34,16 @@ impl<'a> Eval<'a> {
     ghost use Rattle.eval.specs.Lends.{lent_of, tables_of, Taken, PutBack, SameLent};
     ghost use Rattle.eval.specs.Answers.{done_answer, word_answer, cleared_answer};
 
-    // Whether what is lent cannot be: all seven calls test it first, over all of it. By `|`, without a branch: hardly a call is refused.
+    // Whether what is lent cannot be: all seven calls test it first, over all of it.
     #[inline(always)]
     fn is_forged(&self) -> bool
         ensures { result ≡ forged (lent_of self.now) }
     {
-        (self.operand_stack.len() < self.state.operand_depth)
-            | ((self.call_stack.len() < self.state.call_depth)
-                | ((OperatorRecord::capacity(self.script.operators) < self.counts.operators)
-                    | ((LabelRecord::capacity(self.script.labels) < self.counts.labels)
-                        | (LAST_EFFECT < self.state.effect))))
+        self.operand_stack.len() < self.state.operand_depth
+            || self.call_stack.len() < self.state.call_depth
+            || OperatorRecord::capacity(self.script.operators) < self.counts.operators
+            || LabelRecord::capacity(self.script.labels) < self.counts.labels
+            || LAST_EFFECT < self.state.effect
     }
 
     // Takes out the machine that a call works on; the buffers here are empty until it is put back.
@@ -57,7 +57,6 @@ impl<'a> Eval<'a> {
         Ok(Machine {
             next: self.state.next_operator,
             effect: Effect::from_number(self.state.effect),
-            // Beside the effect, not in it: a host may lend an operator without an effect, and a step gives it back.
             effect_operator: self.state.effect_operator,
             operands: OperandStack {
                 stack: Stack {
