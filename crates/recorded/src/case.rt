@@ -2,9 +2,9 @@
 ghost use Rattle.std.specs.Prelude.{◌≡◌, ◌<◌, ◌↔◌, IsTrue, OnSome, take, length};
 
 use crate::call;
-use crate::list::List;
 use eval::Eval;
 use evaluation::Buffers;
+use lists::List;
 use records::{LabelRecord, OperatorRecord, Record};
 
 // The greatest sizes of a case: its text in bytes, the buffers in words, the rest in records and calls.

@@ -2,9 +2,8 @@
 ghost use Rattle.std.specs.Prelude.{◌≤◌, IfOk, length};
 
 use crate::case::Case;
-use crate::list::List;
-use crate::numbers::Numbers;
 use crate::tally::Tally;
+use lists::{List, Numbers};
 use std::fs::File;
 use std::io;
 use std::io::Read;

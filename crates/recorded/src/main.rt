@@ -1,11 +1,9 @@
-// Plays a fixed list of the Rust's answers through the engine's calls; what it prints is held to the file `stdout`.
+//! Plays a fixed list of the Rust's answers through the engine's calls; what it prints is held to the file `stdout`.
 #![tactic(auto)]
 
 mod call;
 mod case;
 mod kind;
-mod list;
-mod numbers;
 mod tally;
 
 use std::io;

@@ -1,5 +1,6 @@
 // How many cases there are, and how many agree.
-ghost use Rattle.std.specs.Prelude.{◌≡◌, ◌+◌, ◌<◌, ◌≤◌, ◌^◌};
+ghost use Rattle.std.specs.Prelude.{◌≡◌, ◌+◌, ◌<◌, ◌≤◌, ◌^◌, cond, None};
+ghost use Rattle.recorded.specs.Agreement.{first_with};
 
 use std::fmt;
 
@@ -14,7 +15,9 @@ pub(crate) struct Tally {
 
 impl Tally {
     pub(crate) fn new() -> Tally
-        ensures { result.cases ≡ 0 }
+        ensures cases { result.cases ≡ 0 }
+        ensures agreeing { result.agreeing ≡ 0 }
+        ensures first { result.first ≡ None }
     {
         Tally {
             cases: 0,
@@ -26,7 +29,9 @@ impl Tally {
     /// With one case more.
     pub(crate) fn with(self, agrees: bool) -> Tally
         requires { self.cases + 1 < 2 ^ 64 }
-        ensures { result.cases ≡ self.cases + 1 }
+        ensures cases { result.cases ≡ self.cases + 1 }
+        ensures agreeing { result.agreeing ≡ self.agreeing + cond agrees 1 0 }
+        ensures first { result.first ≡ first_with self.first (self.cases + 1) agrees }
     {
         let cases = self.cases + 1;
         Tally {
@@ -39,7 +44,9 @@ impl Tally {
     /// Of both; which of them is the first, is not told.
     pub(crate) fn plus(self, other: Tally) -> Tally
         requires { self.cases + other.cases < 2 ^ 64 }
-        ensures { result.cases ≡ self.cases + other.cases }
+        ensures cases { result.cases ≡ self.cases + other.cases }
+        ensures agreeing { result.agreeing ≡ self.agreeing + other.agreeing }
+        ensures first { result.first ≡ None }
     {
         Tally {
             cases: self.cases + other.cases,

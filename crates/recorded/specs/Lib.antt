@@ -1,0 +1,2 @@
+-- What is counted of the cases.
+pub mod Agreement
