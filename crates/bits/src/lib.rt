@@ -1,4 +1,4 @@
-// A count of bits and rotations, as the crate word defines them: std's, which promise the same in other words.
+//! A count of bits and rotations, as the crate word defines them: std's, which promise the same in other words.
 #![tactic(auto)]
 
 mod bits;

@@ -1,4 +1,4 @@
-// What a token is, and the number that it may spell.
+//! What a token is, and the number that it may spell.
 #![tactic(auto)]
 
 mod kind;

@@ -1,4 +1,4 @@
-// What operators work on, in lent buffers: two stacks of words and a memory; and why an evaluation stops.
+//! What operators work on, in lent buffers: two stacks of words and a memory; and why an evaluation stops.
 #![tactic(auto)]
 
 mod call_stack;

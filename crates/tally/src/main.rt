@@ -1,4 +1,4 @@
-// The program tally: the script on standard input, run once; prints the answer, then each operand from the bottom up.
+//! The program tally: the script on standard input, run once; prints the answer, then each operand from the bottom up.
 #![tactic(auto)]
 
 mod tally;

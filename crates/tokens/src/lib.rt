@@ -1,4 +1,4 @@
-// The tokens of a text, which `Script::compile` finds by `char_indices`.
+//! The tokens of a text, which `Script::compile` finds by `char_indices`.
 #![tactic(auto)]
 
 mod first;

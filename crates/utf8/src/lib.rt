@@ -1,4 +1,4 @@
-// Bytes as a text: well-formed UTF-8, by the Unicode standard's table 3-7.
+//! Bytes as a text: well-formed UTF-8, by the Unicode standard's table 3-7.
 #![tactic(auto)]
 
 ghost use Rattle.std.specs.Prelude.{◌≡◌, MatchResult};

@@ -1,4 +1,4 @@
-// Products and the signed division of words, as Rust's i32 gave them. The other definitions in specs/Word.antt are for the crates bits and machine.
+//! Products and the signed division of words, as Rust's i32 gave them. The other definitions in specs/Word.antt are for the crates bits and machine.
 #![tactic(auto)]
 
 mod arithmetic;

@@ -1,4 +1,4 @@
-// The 30 words of the language: one constant table, looked up by name.
+//! The 30 words of the language: one constant table, looked up by name.
 #![tactic(auto)]
 
 mod fetched;
