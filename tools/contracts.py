@@ -1,11 +1,12 @@
 #!/usr/bin/env python3
-"""Lists, old beside new, what a redesign changed: public functions with their clauses, public types with their invariants, definitions, theorems, edits.
+"""Lists, old beside new, what a redesign changed: public functions with their clauses, public types with their invariants, definitions, theorems, lemmas, edits.
 
   contracts.py COMMIT            at the top of the repository: writes the lists, in Markdown, against that commit
   contracts.py COMMIT --edits    each must-fail edit of that commit, where it stands now, and what is missing
   contracts.py COMMIT --check    only what no line below accounts for; status 1 where there is any
 
-What carries a promise on is written by hand below: MOVED for a function that has another name or crate, WENT for one that has none. For definitions STATED.
+What carries a promise on is written by hand below: MOVED for a function that has another name or crate, WENT for one that has none. For definitions STATED,
+for lemmas LEMMAS.
 The script matches nothing by guess: a name that no line names, and that is not found at its place, is listed as not accounted for.
 """
 import os
@@ -65,8 +66,8 @@ WENT = {
     "input::fill": "std's `io::copy` from `Read::take` into a slice; that its count is at most the buffer's length, `min` says where it is used",
     "lists::same": "`==` of slices",
     "lists::number": "arrays of a known length, by pattern",
-    "lists::first": "`List::take` of recorded, which promises `take`",
-    "lists::after": "`List::take` of recorded, which promises `drop` of what is left; past the end it was the empty list, and now `take` gives none and reads nothing",
+    "lists::first": "`List::take`, which promises `take`",
+    "lists::after": "`List::take`, which promises `drop` of what is left; past the end it was the empty list, and now `take` gives none and reads nothing",
     "listing::operators": "`Display` of `Listing`; nothing was promised of what it prints",
     "listing::labels": "`Display` of `Listing`; nothing was promised of what it prints",
     "print::bytes": "`print!`; nothing was promised", "print::decimal": "`print!`; nothing was promised", "print::number": "`print!`; nothing was promised",
@@ -127,6 +128,45 @@ THEOREMS = [
 ]
 NAMED = [("stack_assembly", "condition1"), ("stack_assembly", "condition3"), ("stack_assembly", "cards"), ("stack_assembly", "edges"), ("stack_assembly", "carries_over"), ("stack_assembly", "table"),
          ("stack_assembly", "step-made"), ("words", "test"), ("utf8", "examples"), ("tokens", "examples"), ("kinds", "examples"), ("word", "examples")]
+
+# Old file of proofs/: what states now what its lemmas served.
+LEMMAS = {
+    "base/Parts": "std's `get_or-drop`, of which it was the case 0",
+    "base/Tests": "`cond_by` of base, and `and_parts` of std's lemmas of Bool; `neither` was of two tests joined, which are two branches now",
+    "bits/Digits": "the clauses of `rotate_left`, `rotate_right` and `count_ones` of bits, by std's of the same names",
+    "eval/Runs": "the clauses of `Eval::step` and `Eval::run`; eval, proofs/Calls and TurnedBack",
+    "fetch/Fetched": "the clause of `Script::fetch`: `fetched`; script, proofs/Fetched",
+    "fetch/Records": "the clauses of `OperatorRecord::raw`, `OperatorRecord::read` and `LabelRecord::read` of records; script, proofs/Tables",
+    "fetch/Resolved": "the clause of `resolve` of script: `resolved`; script, proofs/Resolved",
+    "host/Hosts": "the clauses of `Eval::push`, `pop`, `read`, `write` and `clear_effect`; eval, proofs/Singles",
+    "kinds/Digits": "the clauses of `kind_of`, `read_number` and `magnitude`; kinds, proofs/Digits",
+    "names/Eight": "std's `first_chunk` and `u64::from_le_bytes`; names, proofs/Packed",
+    "names/Same": "`==` of slices, whose clause in std is that the lists are equal; names, proofs/Same; two ends of a name: `same_ends` of words",
+    "operators/Places": "the clauses of the words' methods in `Machine`: `Comes`, by the word itself and no place",
+    "operators/Pops": "the clauses of `OperandStack::pop`, `place` and `push` of store: `Popped`, `Pushed`",
+    "operators/Stacks": "the clauses of `Stack`: `Popped`, `Pushed`, `Removed`; store, proofs/Stacks",
+    "order/Orders": "std's comparisons of i32, and `less` and `at_most` of word, in the clause of `Machine::evaluate`",
+    "recall/Remembering": "the invariant of `Memo`, `Remembers`, and the clause of `Operators::get_operator`; script, proofs/Remembered",
+    "script/Compiling": "the clause of `compile`: `Compiles`; `text_of` refuses an ill-formed text before any pass",
+    "script/Pass": "the clause of `pass`: `Passes`; `text_of` refuses an ill-formed text before any pass",
+    "script/Tables": "the clauses of `put` and `copy_words` of compile; compile, proofs/Tables, and records, proofs/Tables",
+    "sources/Ranges": "the clause of `source`; `OperatorRecord::read` says that a range is in the text",
+    "state/Passed": "the clause of `Eval::take`: `Taken` has `unforged`; stack_assembly, proofs/Chains `false_unforged`",
+    "steps/Comes": "the clauses of the words' methods in `Machine` and of `Machine::evaluate`: `Comes`",
+    "steps/Groups": "the clause of `Machine::evaluate`: a word is a case of an enum, and has no place to compute",
+    "steps/Running": "the invariant of `Machine::make_steps`, `Going`; machine, proofs/FirstStep and Going",
+    "steps/Stretches": "the clauses of `Machine::run_ahead` and `Machine::run_on`: `RunsAhead`, `Runs`; machine, proofs/Going",
+    "tokens/Later": "the clauses of `first_token` and `Tokens::next`: `First`, `tokens_left`",
+    "tokens/Scans": "the clauses of `blank_end`, `comment_end` and `token_end`: `Between`, `Ends`; tokens, proofs/Scans",
+    "tokens/Spans": "the clauses of `comment_end` and `token_end`, character by character of a `&str`; tokens, proofs/Scans",
+    "transfers/Places": "the clauses of `Machine::call` and `Machine::call_either`: `Comes`, by the word itself and no place",
+    "transfers/Pops": "the clauses of the words' methods in `Machine`: `Comes`",
+    "utf8/Ascii": "the clause of `text_of`; no function asks whether a text is ASCII",
+    "utf8/Fronts": "the clause of `text_of`, by simdutf8's; utf8, proofs/Encoded and Fronts",
+    "utf8/Offsets": "std's `chars` of a `&str`; tokens, proofs/Scans `char_at` and `some-char`",
+    "word/Signs": "the clause of `divide`, by std's division of i32; word, proofs/Casts",
+    "words/Words": "the clauses of `Word::from_name` and `Word::short`; words, proofs/Rows, Short and Ends",
+}
 
 old, new = Tree(COMMIT), Tree()
 was, now = items(old), items(new)
@@ -253,6 +293,38 @@ def theorems():
         print(f"| {c} `{n}` | {a[0].split('/', 2)[2] if a else '–'}: {cell(was_said)} | {(b[0].split('/', 2)[2] + ': ' + ('the same' if is_said == was_said else cell(is_said))) if b else '**gone**'} |")
 
 
+def lemmas():
+    """The public names of the files of proofs/ that belong to no one function, and those that stand in no such file now."""
+    at = re.compile(r"crates/([^/]+)/proofs/([A-Z][A-Za-z]*)\.antt")
+
+    def names(tree, kind):
+        found = {}
+        for f in tree.of(at.pattern):
+            inner = None  # the fields of a record and the cases of a data type are no lemmas
+            for line in tree.text(f).split("\n"):
+                deep = len(line) - len(line.lstrip())
+                if line.strip() and inner is not None and deep <= inner:
+                    inner = None
+                m = re.match(r"[ ]*" + kind + r"(?:abbrev |unfoldable )*(?:pub )?(record |data )?([^\s:({-][^\s:({]*) .*:", line)
+                if m and inner is None and m[2] not in ("use", "module", "where", "open"):
+                    found.setdefault("/".join(at.fullmatch(f).groups()), []).append(m[2])
+                if m and m[1]:
+                    inner = deep
+        return found
+
+    before = {f: list(dict.fromkeys(ns)) for f, ns in names(old, r"(?=(?:abbrev |unfoldable )*pub )").items()}
+    after = {n for ns in names(new, "").values() for n in ns}
+    count = sum(map(len, before.values()))
+    gone = {f: [n for n in ns if n not in after] for f, ns in before.items()}
+    print(f"\nLemmas of proofs/ that several proofs may cite: {count} before, of which {count - sum(map(len, gone.values()))} stand by name. Those that went, by their file:\n")
+    print("| file | lemmas | what states now what they served |\n|---|---|---|")
+    for f, ns in sorted(gone.items()):
+        if ns:
+            if f not in LEMMAS:
+                missing.append(f"lemmas of {f}: {', '.join(ns)}")
+            print(f"| {f} | {', '.join(f'`{n}`' for n in ns)} | {LEMMAS.get(f, '**to do**')} |")
+
+
 def edits(whole):
     path = re.compile(r"crates/([^/]+)/must-fail/(.+)\.edit")
     a = sorted(m.groups() for f in old.files if (m := path.fullmatch(f)))
@@ -343,6 +415,7 @@ else:
     types()
     definitions()
     theorems()
+    lemmas()
     edits(False)
     print("\n## Not accounted for\n\n" + ("\n".join(f"- {m}" for m in missing) or "Nothing."))
     sys.stdout = out
