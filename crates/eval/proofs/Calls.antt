@@ -1,103 +1,61 @@
--- A host's calls, by what the machine promises.
-use Rattle.std.proofs.Common.{◌≡◌, ℕ, arith, refl, sym, ap, ◌∙◌, false, Result, Option, Some, None}
-use Rattle.stack_assembly.specs.Answer.{Answer}
+-- A host's call, by what it does to the machine that is taken out for it and put back.
+use Rattle.std.proofs.Common.{ℕ, ◌+◌, ◌-◌, ◌≡◌, refl, sym, ap, ◌∙◌, arith, true, false, Option, Some, None, Ok}
+use Rattle.stack_assembly.specs.Answer.{Answer, answer}
 use Rattle.stack_assembly.specs.Script.{Script, Tables, script_in}
 use Rattle.stack_assembly.specs.Machine.{Store, Done}
-use Rattle.stack_assembly.specs.Run.{Call, step_call, run_call, run, performed, reached, reached_in_run}
-use Rattle.stack_assembly.specs.Step.{step}
-use Rattle.stack_assembly.specs.Refusals.{Single}
+use Rattle.stack_assembly.specs.Run.{Call, run_call, cleared, performed}
 use Rattle.stack_assembly.specs.Host as host
 use Rattle.stack_assembly.specs.Host.{forged}
-use Rattle.stack_assembly.specs.Promise.{operand_depth, call_depth, Called, made}
-use Rattle.stack_assembly.proofs.Live.{live-reverse}
+use Rattle.stack_assembly.specs.Promise.{Made, Called, called}
+use Rattle.stack_assembly.proofs.Live.{lent-back}
+use Rattle.store.specs.Effects.{effect_number}
+use Rattle.store.specs.Stacks.{stack_of}
+use Rattle.store.specs.declared.effect.Effect.{Effect}
 use Rattle.machine.specs.declared.machine.Machine.{Machine}
 use Rattle.machine.specs.declared.steps.Ended.{Ended}
-use Rattle.machine.specs.declared.runs.Ran.{Ran}
-use Rattle.machine.specs.Outcomes.{room_of}
-use Rattle.machine.specs.Steps.{machine_of, step_answer, ended_answer, Stepped}
-use Rattle.machine.specs.Runs.{Runs}
-use Rattle.store.specs.Effects.{effect_number}
-use Rattle.store.specs.declared.effect.Effect.{Effect}
-use Rattle.machine.proofs.FirstStep.{positive}
-use Rattle.eval.specs.declared.state.State.{State}
+use Rattle.machine.specs.declared.steps.Ended.TheVariants.{Raised, Refused}
+use Rattle.machine.specs.Outcomes.{with_operator}
+use Rattle.machine.specs.Steps.{machine_of, ended_answer}
+use Rattle.machine.specs.Runs.{MayGoOn}
+use Rattle.machine.proofs.Numbers.{positive}
 use Rattle.eval.specs.declared.eval.Eval.{Eval}
-use Rattle.eval.specs.Lends.{state_of, lent_of, tables_of, left, Taken, PutBack}
-use Rattle.eval.proofs.Called.{single_called}
+use Rattle.eval.specs.Answers.{cleared_answer}
+use Rattle.eval.specs.Lends.{lent_of, tables_of, left, Taken, PutBack}
 
-pub holds : (t : Tables) (m : Machine) → host.machine_of (left t m) ≡ machine_of m
-unfolding host.machine_of
-holds t m =
-    rw (live-reverse m.operands.stack.depth m.operands.stack.words.now m.operands.stack.within, live-reverse m.calls.stack.depth m.calls.stack.words.now m.calls.stack.within) refl
+holds : (t : Tables) (m : Machine) → host.machine_of (left t m) ≡ machine_of m
+unfolding host.machine_of stack_of
+holds t m = refl
 
-module _ (t : Tables) (s : Script) (e : s ≡ script_in t) {a b : Machine} (f : forged (left t a) ≡ false) where
-  pub ran_called : {budget : ℕ} {r : Ran} → Runs s budget r a b → Called (run_call budget) (left t a) (ended_answer r.ended r.steps) (left t b)
-  unfolding performed reached host.room_of
-  ran_called {budget} {r} runs =
-      let m = holds t a in
-      let d : record { answer = ended_answer r.ended r.steps; machine = machine_of b } ≡ run (script_in t) (room_of a) budget (host.machine_of (left t a)) = rw (← e, m) runs.done in
-      let deep : (depth : Store → ℕ) → reached_in_run depth s (room_of a) budget (machine_of a) ≡ reached_in_run depth (script_in t) (room_of a) budget (host.machine_of (left t a)) =
-      λ depth. rw (← e, m) refl in
-      made f
-      (record {
-        answer = ap (λ (d : Done). d.answer) d;
-        machine = holds t b ∙ ap (λ (d : Done). d.machine) d;
-        tables = refl;
-        operand_stack = record { room = runs.same.operands.1; holds = b.operands.stack.within; words = rw (← deep operand_depth) runs.operands };
-        call_stack = record { room = runs.same.calls.1; holds = b.calls.stack.within; words = rw (← deep call_depth) runs.calls };
-      })
+leaves : (t : Tables) (m : Machine) → host.lent_of t (machine_of m) ≡ left t m
+leaves t m = rw (holds t m) at (lent-back (left t m) m.operands.stack.within m.calls.stack.within)
 
-  pub stepped_called : {r : Result (Unit {0}) Ended} → Stepped s r a b → Called step_call (left t a) (step_answer r) (left t b)
-  unfolding performed host.room_of
-  stepped_called {r} did =
-      let d : step (script_in t) (room_of a) (host.machine_of (left t a)) ≡ record { answer = step_answer r; machine = host.machine_of (left t b) } =
-      rw (← e, holds t a, holds t b) (sym did.done) in
-      single_called Single.step f d refl
-      (record { room = did.same.operands.1; holds = b.operands.stack.within; words = did.kept.operands _ (omega arith) (omega arith) })
-      (record { room = did.same.calls.1; holds = b.calls.stack.within; words = did.kept.calls _ (omega arith) (omega arith) })
+pub refused : (e : Eval) (c : Call) → forged (lent_of e) ≡ true → Called c (lent_of e) (answer 25 0 0) (lent_of e)
+unfolding called
+refused e c f = rw f refl
 
--- a call, by what it does to the machine that is taken out for it and put back
-module _ {a mid b : Eval} {m n : Machine} (taken : Taken a m mid) (back : PutBack mid n b) where
-  pub before : lent_of a ≡ left (tables_of a) m
-  before =
-      sym (λ i. record {
-        state = state_of (taken.state i);
-        tables = tables_of a;
-        operand_stack = (taken.operand_stack i).now;
-        call_stack = (taken.call_stack i).now;
-        memory = (taken.memory i).now;
-      })
+-- what a call is, by what the definition makes of it on a machine
+abbrev made : Tables → Done → Made
+made t d = record { answer = d.answer; after = host.lent_of t d.machine }
 
-  pub after : lent_of b ≡ left (tables_of a) n
-  after =
-      let counts = back.counts ∙ taken.counts in
-      let script = back.script ∙ taken.script in
-      λ i. record {
-        state = state_of (back.state i);
-        tables = record {
-          text = (script i).text.now;
-          operators = (script i).operators.now;
-          labels = (script i).labels.now;
-          operator_count = (counts i).operators;
-          label_count = (counts i).labels;
-        };
-        operand_stack = (back.operand_stack i).now;
-        call_stack = (back.call_stack i).now;
-        memory = (back.memory i).now;
-      }
+is_made : (c : Call) (t : Tables) (m : Machine) {l : host.Lent} → l ≡ left t m → forged l ≡ false → called c l ≡ made t (performed (script_in t) c (machine_of m))
+unfolding called
+is_made c t m e f =
+    let u = rw e at f in
+    rw (e, u, holds t m) refl
 
-  pub lent_called : {c : Call} {ans : Answer} → (forged (left (tables_of a) m) ≡ false → Called c (left (tables_of a) m) ans (left (tables_of a) n)) → Called c (lent_of a) ans (lent_of b)
-  lent_called did = rw (before, after) (did (rw (← before) taken.unforged))
+pub lent_called : {a mid b : Eval} {m n : Machine} → Taken a m mid → (c : Call) → PutBack mid n b → (w : Answer)
+    → record { answer = w; machine = machine_of n } ≡ performed (script_in (tables_of mid)) c (machine_of m) → Called c (lent_of a) w (lent_of b)
+lent_called {mid = mid} {m = m} {n} taken c back w did =
+    let t = tables_of mid in
+    ap (λ (l : host.Lent). record { answer = w; after = l }) (back.lent ∙ sym (leaves t n)) ∙ ap (made t) did ∙ sym (is_made c t m taken.lent taken.unforged)
 
--- the script stays
-pub tables_kept : {a b : Eval} {m : Machine} → Taken a m b → script_in (tables_of b) ≡ script_in (tables_of a)
-tables_kept t =
-    λ i. script_in (record {
-      text = (t.script i).text.now;
-      operators = (t.script i).operators.now;
-      labels = (t.script i).labels.now;
-      operator_count = (t.counts i).operators;
-      label_count = (t.counts i).labels;
-    })
+-- the effect that stands is taken away
+pub clears : (e : Option Effect) (operator : ℕ) (s : Store)
+    → record { answer = cleared_answer (Ok (with_operator e operator)); machine = record { store = s; effect = 0; effect_operator = 0 } }
+    ≡ cleared (effect_number e) (record { store = s; effect = effect_number e; effect_operator = operator })
+unfolding cleared
+clears None operator s = refl
+clears (Some x) operator s = rw (positive x) refl
 
 -- no effect stands where its number is 0
 none : (e : Option Effect) → effect_number e ≡ 0 → e ≡ None
@@ -105,4 +63,20 @@ none None h = refl
 none (Some x) h = absurd (omega (arith, positive x))
 
 pub none_stands : {a b : Eval} {m : Machine} → Taken a m b → a.state.effect ≡ 0 → m.effect ≡ None
-none_stands {m = m} t e = none m.effect (ap (λ (s : State). s.effect) t.state ∙ e)
+none_stands {m = m} t e = none m.effect (sym (ap (λ (l : host.Lent). l.state.effect) t.lent) ∙ e)
+
+-- a run that turned back: what was run ahead, and the call for the rest
+counted_answer : (ended : Ended) (n k : ℕ) → answer (ended_answer ended k).number (ended_answer ended k).value (n + (ended_answer ended k).steps) ≡ ended_answer ended (n + k)
+counted_answer (Raised e operator) n k = refl
+counted_answer (Refused r) n k = refl
+
+pub went_on : {a mid turned : Eval} {m n : Machine} {s : Script} (after : Eval) → Taken a m mid → PutBack mid n turned → s ≡ script_in (tables_of mid)
+    → {budget steps : ℕ} → MayGoOn s budget steps m n → forged (lent_of turned) ≡ false
+    → (ended : Ended) (k : ℕ) → Called (run_call (budget - steps)) (lent_of turned) (ended_answer ended k) (lent_of after)
+    → Called (run_call budget) (lent_of a) (ended_answer ended (steps + k)) (lent_of after)
+unfolding performed
+went_on {mid = mid} {m = m} {n} after taken back same {budget} {steps} g f ended k rest =
+    let t = tables_of mid in
+    rw (← counted_answer ended steps k)
+    (ap (λ (x : Made). record { answer = answer x.answer.number x.answer.value (steps + x.answer.steps); after = x.after }) (rest ∙ is_made (run_call (budget - steps)) t n back.lent f)
+    ∙ ap (made t) (sym (rw same at g.under_way.run)) ∙ sym (is_made (run_call budget) t m taken.lent taken.unforged))

@@ -52,43 +52,41 @@ pub record SameLent (a b : Eval) : Type 0 where
 abbrev pub tables_of : Eval → Tables
 tables_of e = (lent_of e).tables
 
-abbrev pub state_left : Machine → State
-state_left m =
-    record {
-      next_operator = m.next;
-      operand_depth = m.operands.stack.depth;
-      call_depth = m.calls.stack.depth;
-      effect = effect_number m.effect;
-      effect_operator = m.effect_operator;
-    }
-
--- what a machine holds, as a host lends it
+-- what is lent with a machine
 abbrev pub left : Tables → Machine → host.Lent
 left t m =
     record {
-      state = state_of (state_left m);
+      state = record {
+        next = m.next;
+        operand_depth = m.operands.stack.depth;
+        call_depth = m.calls.stack.depth;
+        effect = effect_number m.effect;
+        effect_operator = m.effect_operator;
+      };
       tables = t;
       operand_stack = m.operands.stack.words.now;
       call_stack = m.calls.stack.words.now;
       memory = m.memory.words.now;
     }
 
+-- its buffers are those that are lent
+pub record SameWords (e : Eval) (m : Machine) : Type 0 where
+  pub operand_stack : m.operands.stack.words.ghost_name ≡ e.operand_stack.ghost_name
+  pub call_stack : m.calls.stack.words.ghost_name ≡ e.call_stack.ghost_name
+  pub memory : m.memory.words.ghost_name ≡ e.memory.ghost_name
+
 -- it has the state and the buffers, and the counts are within the tables
 pub record Taken (a : Eval) (m : Machine) (b : Eval) : Type 0 where
   pub unforged : forged (lent_of a) ≡ false
-  pub state : state_left m ≡ a.state
-  pub operand_stack : m.operands.stack.words ≡ a.operand_stack
-  pub call_stack : m.calls.stack.words ≡ a.call_stack
-  pub memory : m.memory.words ≡ a.memory
+  pub lent : lent_of a ≡ left (tables_of b) m
+  pub words : SameWords a m
   pub counts : b.counts ≡ a.counts
   pub script : b.script ≡ a.script
   pub operators : 4 * b.counts.operators ≤ length b.script.operators.now
   pub labels : 3 * b.counts.labels ≤ length b.script.labels.now
 
 pub record PutBack (a : Eval) (m : Machine) (b : Eval) : Type 0 where
-  pub state : b.state ≡ state_left m
-  pub operand_stack : b.operand_stack ≡ m.operands.stack.words
-  pub call_stack : b.call_stack ≡ m.calls.stack.words
-  pub memory : b.memory ≡ m.memory.words
+  pub lent : lent_of b ≡ left (tables_of a) m
+  pub words : SameWords b m
   pub counts : b.counts ≡ a.counts
   pub script : b.script ≡ a.script

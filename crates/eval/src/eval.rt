@@ -1,4 +1,5 @@
 // What is lent to a host's calls, and the calls that make no step.
+#![tactic(auto, using(crate::proofs::Calls::refused), unfolding(stack_assembly::specs::Host::forged))]
 
 use crate::state::State;
 use machine::Machine;
@@ -24,7 +25,7 @@ pub struct Eval<'a> {
 }
 
 impl<'a> Eval<'a> {
-    ghost use Rattle.std.specs.Prelude.{◌≡◌, ◌≤◌, ◌*◌, true, false, take, length, MatchResult};
+    ghost use Rattle.std.specs.Prelude.{◌≡◌, ◌≤◌, ◌*◌, true, take, length, MatchResult};
     ghost use Rattle.store.specs.declared.refusal.Refusal.TheVariants.{Forged};
     ghost use Rattle.stack_assembly.specs.Host.{forged};
     ghost use Rattle.stack_assembly.specs.Run.{push_call, pop_call, read_call, write_call, clear_call};

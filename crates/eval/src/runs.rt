@@ -1,5 +1,5 @@
 // Steps and runs, as a host calls them.
-#![tactic(auto, unfolding(stack_assembly::specs::Host::forged))]
+#![tactic(auto, using(crate::proofs::Calls::refused), unfolding(stack_assembly::specs::Host::forged))]
 
 ghost use Rattle.std.specs.Prelude.{◌≡◌, ◌≤◌, false};
 ghost use Rattle.stack_assembly.specs.Host.{forged};

@@ -1,2 +1,2 @@
-pub mod FirstStep
-pub mod Going
+pub mod Numbers
+pub mod UnderWay

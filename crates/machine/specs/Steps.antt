@@ -8,7 +8,7 @@ use Rattle.store.specs.Effects.{effect_of, effect_number, refusal_number, refusa
 use Rattle.machine.specs.declared.machine.Machine.{Machine}
 use Rattle.machine.specs.declared.steps.Ended.{Ended}
 use Rattle.machine.specs.declared.steps.Ended.TheVariants.{Raised, Refused}
-use Rattle.machine.specs.Outcomes.{store_of, room_of, SameBuffers, Kept}
+use Rattle.machine.specs.Outcomes.{store_of, SameBuffers}
 
 abbrev pub machine_of : Machine → definition.Machine
 machine_of m = record { store = store_of m; effect = effect_number m.effect; effect_operator = m.effect_operator }
@@ -28,6 +28,5 @@ step_answer (Ok _) = answer 0 0 1
 step_answer (Err ended) = ended_answer ended (counted_by ended)
 
 pub record Stepped (s : Script) (r : Result (Unit {0}) Ended) (a b : Machine) : Type 0 where
-  pub done : record { answer = step_answer r; machine = machine_of b } ≡ step s (room_of a) (machine_of a)
+  pub done : record { answer = step_answer r; machine = machine_of b } ≡ step s (machine_of a)
   pub same : SameBuffers a b
-  pub kept : Kept a b

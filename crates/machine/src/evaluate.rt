@@ -4,7 +4,7 @@ ghost use Rattle.store.specs.declared.refusal.Stop.TheVariants.{Raised};
 ghost use Rattle.store.specs.declared.effect.Effect.TheVariants as effect;
 ghost use Rattle.stack_assembly.specs.Operators.{unary, binary};
 ghost use Rattle.stack_assembly.specs.Step.{fetched, outcome};
-ghost use Rattle.machine.specs.Outcomes.{store_of, room_of, Comes};
+ghost use Rattle.machine.specs.Outcomes.{store_of, outcome_of, Rest, Comes};
 
 use crate::machine::Machine;
 use script::Operators;
@@ -25,7 +25,9 @@ impl Machine<'_> {
     #[tactic(auto, unfolding(stack_assembly::specs::Operators::unary, stack_assembly::specs::Machine::pop_from))]
     fn unary<F: FnOnce(u32) -> u32>(&mut self, f: F) -> Result<(), Stop>
         requires { F.IsAlwaysCallable f }
-        ensures { (g : ℕ → ℕ) → ((a c : ℕ) → a < 2 ^ 32 → F.post f a c → c ≡ g a) → Comes (unary g (store_of self.old)) result self.old self.new }
+        ensures value { (g : ℕ → ℕ) → ((a c : ℕ) → a < 2 ^ 32 → F.post f a c → c ≡ g a)
+            → outcome_of result (store_of self.new) ≡ unary g (store_of self.old) }
+        ensures rest { Rest result self.old self.new }
     {
         let a = self.operands.pop()?;
         self.operands.place(f(a));
@@ -37,7 +39,9 @@ impl Machine<'_> {
     #[tactic(auto, unfolding(stack_assembly::specs::Operators::binary, stack_assembly::specs::Machine::pop_from))]
     fn binary<F: FnOnce(u32, u32) -> u32>(&mut self, f: F) -> Result<(), Stop>
         requires { F.IsAlwaysCallable f }
-        ensures { (g : ℕ → ℕ → ℕ) → ((a b c : ℕ) → a < 2 ^ 32 → b < 2 ^ 32 → F.post f a b c → c ≡ g a b) → Comes (binary g (store_of self.old)) result self.old self.new }
+        ensures value { (g : ℕ → ℕ → ℕ) → ((a b c : ℕ) → a < 2 ^ 32 → b < 2 ^ 32 → F.post f a b c → c ≡ g a b)
+            → outcome_of result (store_of self.new) ≡ binary g (store_of self.old) }
+        ensures rest { Rest result self.old self.new }
     {
         let b = self.operands.pop()?;
         let a = self.operands.pop()?;
@@ -50,7 +54,7 @@ impl Machine<'_> {
     #[inline(always)]
     #[tactic(auto, unfolding(stack_assembly::specs::Step::outcome, stack_assembly::specs::Step::pushed, stack_assembly::specs::Operators::evaluated, word::specs::Word::less, word::specs::Word::at_most, word::specs::Word::shifted_right))]
     pub(crate) fn evaluate<S: Operators>(&mut self, script: &mut S, at: u32) -> Result<(), Stop>
-        ensures comes { Comes (outcome (room_of self.old) (fetched (S.told script.old) at) (store_of self.old)) result self.old self.new }
+        ensures comes { Comes (outcome (fetched (S.told script.old) at) (store_of self.old)) result self.old self.new }
         ensures script { S.told script.new ≡ S.told script.old }
     {
         match script.get_operator(at) {

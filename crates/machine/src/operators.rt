@@ -1,7 +1,7 @@
 // Operators that do more than to put one result in the place of their operands.
 ghost use Rattle.stack_assembly.specs.Words as word;
 ghost use Rattle.stack_assembly.specs.Operators.{evaluated};
-ghost use Rattle.machine.specs.Outcomes.{store_of, room_of, Comes};
+ghost use Rattle.machine.specs.Outcomes.{store_of, Comes};
 
 use crate::machine::Machine;
 use store::{Effect, Stop};
@@ -11,7 +11,7 @@ impl Machine<'_> {
     #[inline(always)]
     #[tactic(auto, unfolding(stack_assembly::specs::Operators::evaluated, stack_assembly::specs::Operators::copied, stack_assembly::specs::Machine::pop_from))]
     pub(crate) fn copy(&mut self) -> Result<(), Stop>
-        ensures { Comes (evaluated (room_of self.old) word.copy (store_of self.old)) result self.old self.new }
+        ensures { Comes (evaluated word.copy (store_of self.old)) result self.old self.new }
     {
         let index = self.operands.pop()? as usize;
         let value = self
@@ -25,7 +25,7 @@ impl Machine<'_> {
     #[inline(always)]
     #[tactic(auto, unfolding(stack_assembly::specs::Operators::evaluated, stack_assembly::specs::Operators::dropped, stack_assembly::specs::Machine::pop_from))]
     pub(crate) fn drop(&mut self) -> Result<(), Stop>
-        ensures { Comes (evaluated (room_of self.old) word.drop (store_of self.old)) result self.old self.new }
+        ensures { Comes (evaluated word.drop (store_of self.old)) result self.old self.new }
     {
         let index = self.operands.pop()? as usize;
         self.operands
@@ -37,7 +37,7 @@ impl Machine<'_> {
     #[inline(always)]
     #[tactic(auto, unfolding(stack_assembly::specs::Operators::evaluated, stack_assembly::specs::Operators::divided, stack_assembly::specs::Machine::pop_from))]
     pub(crate) fn div(&mut self) -> Result<(), Stop>
-        ensures { Comes (evaluated (room_of self.old) word.div (store_of self.old)) result self.old self.new }
+        ensures { Comes (evaluated word.div (store_of self.old)) result self.old self.new }
     {
         let b = self.operands.pop()?;
         let a = self.operands.pop()?;
@@ -50,7 +50,7 @@ impl Machine<'_> {
     #[inline(always)]
     #[tactic(auto, unfolding(stack_assembly::specs::Operators::evaluated, stack_assembly::specs::Operators::read_at, stack_assembly::specs::Machine::pop_from))]
     pub(crate) fn read(&mut self) -> Result<(), Stop>
-        ensures { Comes (evaluated (room_of self.old) word.read (store_of self.old)) result self.old self.new }
+        ensures { Comes (evaluated word.read (store_of self.old)) result self.old self.new }
     {
         let address = self.operands.pop()?;
         let value = self.memory.read(address)?;
@@ -61,7 +61,7 @@ impl Machine<'_> {
     #[inline(always)]
     #[tactic(auto, unfolding(stack_assembly::specs::Operators::evaluated, stack_assembly::specs::Operators::written_at, stack_assembly::specs::Machine::pop_from))]
     pub(crate) fn write(&mut self) -> Result<(), Stop>
-        ensures { Comes (evaluated (room_of self.old) word.write (store_of self.old)) result self.old self.new }
+        ensures { Comes (evaluated word.write (store_of self.old)) result self.old self.new }
     {
         let value = self.operands.pop()?;
         let address = self.operands.pop()?;
@@ -72,7 +72,7 @@ impl Machine<'_> {
     #[inline(always)]
     #[tactic(auto, unfolding(stack_assembly::specs::Operators::evaluated, stack_assembly::specs::Machine::pop_from))]
     pub(crate) fn jump(&mut self) -> Result<(), Stop>
-        ensures { Comes (evaluated (room_of self.old) word.jump (store_of self.old)) result self.old self.new }
+        ensures { Comes (evaluated word.jump (store_of self.old)) result self.old self.new }
     {
         self.next = self.operands.pop()?;
         Ok(())
@@ -81,7 +81,7 @@ impl Machine<'_> {
     #[inline(always)]
     #[tactic(auto, unfolding(stack_assembly::specs::Operators::evaluated, stack_assembly::specs::Operators::jumped_if, stack_assembly::specs::Machine::pop_from))]
     pub(crate) fn jump_if(&mut self) -> Result<(), Stop>
-        ensures { Comes (evaluated (room_of self.old) word.jump_if (store_of self.old)) result self.old self.new }
+        ensures { Comes (evaluated word.jump_if (store_of self.old)) result self.old self.new }
     {
         let index = self.operands.pop()?;
         let condition = self.operands.pop()?;
@@ -94,7 +94,7 @@ impl Machine<'_> {
     #[inline(always)]
     #[tactic(auto, unfolding(stack_assembly::specs::Operators::evaluated, stack_assembly::specs::Operators::called, stack_assembly::specs::Operators::entered, stack_assembly::specs::Machine::pop_from))]
     pub(crate) fn call(&mut self) -> Result<(), Stop>
-        ensures { Comes (evaluated (room_of self.old) word.call (store_of self.old)) result self.old self.new }
+        ensures { Comes (evaluated word.call (store_of self.old)) result self.old self.new }
     {
         self.calls.push(self.next)?;
         self.next = self.operands.pop()?;
@@ -104,7 +104,7 @@ impl Machine<'_> {
     #[inline(always)]
     #[tactic(auto, unfolding(stack_assembly::specs::Operators::evaluated, stack_assembly::specs::Operators::called_either, stack_assembly::specs::Operators::entered, stack_assembly::specs::Operators::jumped_if, stack_assembly::specs::Machine::pop_from))]
     pub(crate) fn call_either(&mut self) -> Result<(), Stop>
-        ensures { Comes (evaluated (room_of self.old) word.call_either (store_of self.old)) result self.old self.new }
+        ensures { Comes (evaluated word.call_either (store_of self.old)) result self.old self.new }
     {
         self.calls.push(self.next)?;
         let else_ = self.operands.pop()?;
@@ -117,7 +117,7 @@ impl Machine<'_> {
     #[inline(always)]
     #[tactic(auto, unfolding(stack_assembly::specs::Operators::evaluated, stack_assembly::specs::Operators::returned))]
     pub(crate) fn return_(&mut self) -> Result<(), Stop>
-        ensures { Comes (evaluated (room_of self.old) word.return (store_of self.old)) result self.old self.new }
+        ensures { Comes (evaluated word.return (store_of self.old)) result self.old self.new }
     {
         self.next = self.calls.pop().ok_or(Effect::Return)?;
         Ok(())
@@ -126,7 +126,7 @@ impl Machine<'_> {
     #[inline(always)]
     #[tactic(auto, unfolding(stack_assembly::specs::Operators::evaluated, stack_assembly::specs::Operators::asserted, stack_assembly::specs::Machine::pop_from))]
     pub(crate) fn assert(&mut self) -> Result<(), Stop>
-        ensures { Comes (evaluated (room_of self.old) word.assert (store_of self.old)) result self.old self.new }
+        ensures { Comes (evaluated word.assert (store_of self.old)) result self.old self.new }
     {
         let condition = self.operands.pop()?;
         if condition == 0 {

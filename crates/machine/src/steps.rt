@@ -1,5 +1,5 @@
 // Steps.
-#![tactic(auto, using(crate::proofs::FirstStep::standing), unfolding(stack_assembly::specs::Step::step, stack_assembly::specs::Step::step_under, stack_assembly::specs::Step::settled, stack_assembly::specs::Answer::number))]
+#![tactic(auto, using(crate::proofs::Numbers::standing), unfolding(stack_assembly::specs::Step::step, stack_assembly::specs::Step::step_under, stack_assembly::specs::Step::settled, stack_assembly::specs::Answer::number))]
 
 ghost use Rattle.std.specs.Prelude.{◌≡◌, IfOk, Err, Some, None};
 ghost use Rattle.stack_assembly.specs.Script as definition;

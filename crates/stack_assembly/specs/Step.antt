@@ -1,5 +1,5 @@
 -- A step: what the next operator is (the enum of the code says what it can be), what evaluating it comes to, and what the step then answers and leaves.
-use Rattle.std.specs.Prelude.{ℕ, zero, suc, ◌+◌, cond, List, [], ◌∷◌, ltb, length, drop}
+use Rattle.std.specs.Prelude.{ℕ, zero, suc, ◌+◌, cond, List, [], ◌∷◌, drop}
 use Rattle.std.specs.Prelude.{Option, None as none, Some as some}
 use Rattle.names.specs.Names.{same_bytes}
 pub use Rattle.words.specs.declared.fetched.Fetched.{Fetched}
@@ -8,7 +8,7 @@ use Rattle.word.specs.Word.{wrap}
 use Rattle.stack_assembly.specs.Answer.{number, InvalidReference, OutOfOperators, UnknownIdentifier}
 use Rattle.stack_assembly.specs.Script.{Operator, Label, Script, part, damaged_operator, damaged_label}
 use Rattle.stack_assembly.specs.Words.{Word, words, lookup}
-use Rattle.stack_assembly.specs.Machine.{Store, Machine, Room, Outcome, continues, raises, refuses, Done, done, with_next, with_store, with_effect, push}
+use Rattle.stack_assembly.specs.Machine.{depth, has_room, Store, Machine, Outcome, continues, raises, refuses, Done, done, with_next, with_store, with_effect, push}
 use Rattle.stack_assembly.specs.Operators.{evaluated}
 
 -- A reference: labels are examined in order, `place` being the first's, up to the first whose name has the same bytes.
@@ -38,17 +38,17 @@ unfoldable pub fetched : Script → (next : ℕ) → Fetched
 fetched s next = fetched_from s next (drop next s.operators)
 
 -- 27, with the depth: a word is to be pushed and the operand stack is full.
-unfoldable pub pushed : Room → ℕ → Store → Outcome
-pushed room w m = cond (ltb (length m.operands) room.operands) (continues (push w m)) (refuses 27 (length m.operands))
+unfoldable pub pushed : ℕ → Store → Outcome
+pushed w m = cond (has_room m.operands) (continues (push w m)) (refuses 27 (depth m.operands))
 
 -- What evaluating the operator comes to: effect 8 past the last one, 6 without a label, 10 for an unknown word; 26 for a damaged record.
-unfoldable pub outcome : Room → Fetched → Store → Outcome
-outcome room past m = raises OutOfOperators m
-outcome room (damaged place) m = refuses 26 place
-outcome room (pushes w) m = pushed room w m
-outcome room unresolved m = raises InvalidReference m
-outcome room (word w) m = evaluated room w m
-outcome room unknown m = raises UnknownIdentifier m
+unfoldable pub outcome : Fetched → Store → Outcome
+outcome past m = raises OutOfOperators m
+outcome (damaged place) m = refuses 26 place
+outcome (pushes w) m = pushed w m
+outcome unresolved m = raises InvalidReference m
+outcome (word w) m = evaluated w m
+outcome unknown m = raises UnknownIdentifier m
 
 -- Next goes up by one, and from 4294967295 to 0.
 abbrev pub advanced : Store → Store
@@ -61,9 +61,9 @@ settled m (raises e s) = done (number e) m.store.next 1 (with_effect (with_store
 settled m (refuses n v) = done n v 0 m
 
 -- A step advances next in any case; where an effect stands it answers that and does no more, else it evaluates the operator.
-unfoldable pub step_under : (effect : ℕ) → Script → Room → Machine → Done
-step_under zero s room m = settled m (outcome room (fetched s m.store.next) (advanced m.store))
-step_under (suc e) s room m = done (suc e) m.effect_operator 1 (with_store m (advanced m.store))
+unfoldable pub step_under : (effect : ℕ) → Script → Machine → Done
+step_under zero s m = settled m (outcome (fetched s m.store.next) (advanced m.store))
+step_under (suc e) s m = done (suc e) m.effect_operator 1 (with_store m (advanced m.store))
 
-unfoldable pub step : Script → Room → Machine → Done
-step s room m = step_under m.effect s room m
+unfoldable pub step : Script → Machine → Done
+step s m = step_under m.effect s m

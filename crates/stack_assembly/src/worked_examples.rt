@@ -8,7 +8,7 @@ pub fn cards_hold()
     ensures { Cards }
 {}
 
-/// The cards hold of every evaluator that keeps the promises, on buffers of the same lengths, whatever words these hold.
+/// The cards hold on all buffers of the same lengths, whatever words these hold.
 pub fn cards_carry_over()
     ensures { CarriesOver }
 {}

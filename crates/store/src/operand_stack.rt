@@ -28,15 +28,16 @@ pub struct OperandStack<'a> {
 }
 
 impl<'a> OperandStack<'a> {
-    ghost use Rattle.std.specs.Prelude.{◌≡◌, ◌<◌, ◌≤◌, ◌+◌, ◌-◌, [], length, MatchResult, MatchOption, get_or};
-    ghost use Rattle.store.specs.Stacks.{live, room, SameBuffer, Popped, Pushed, Removed};
+    ghost use Rattle.std.specs.Prelude.{◌≡◌, true};
+    ghost use Rattle.stack_assembly.specs.Machine.{has_room, with_word};
+    ghost use Rattle.store.specs.Stacks.{stack_of, pushed, Popped, word_at, removed, found, SameBuffer};
     ghost use Rattle.store.specs.declared.refusal.Refusal.TheVariants.{OperandStackFull};
 
     /// Pops the top; an underflow where there is none.
     #[inline(always)]
     pub fn pop(&mut self) -> Result<u32, OperandStackUnderflow>
         ensures same { SameBuffer self.old.stack self.new.stack }
-        ensures value { MatchResult result (λ x. Popped x self.old.stack self.new.stack) (λ _. (live self.old.stack ≡ []) × (self.new.stack ≡ self.old.stack)) }
+        ensures value { Popped (found result) (stack_of self.old.stack) (stack_of self.new.stack) }
     {
         self.stack.pop().ok_or(OperandStackUnderflow)
     }
@@ -44,11 +45,12 @@ impl<'a> OperandStack<'a> {
     // As `CallStack::push` but for the refusal. `Stack` has what both share; one push would answer an error that each type turns into its own: more lines.
     /// Pushes a word; refused with the depth where the stack is full.
     #[inline(always)]
+    #[tactic(auto, using(crate::proofs::Stacks::depth_in), unfolding(crate::specs::Stacks::stack_of))]
     pub fn push(&mut self, word: u32) -> Result<(), Refusal>
         ensures same { SameBuffer self.old.stack self.new.stack }
-        ensures value { MatchResult result (λ _. Pushed word self.old.stack self.new.stack × (length (live self.old.stack) < room self.old.stack)) (λ r. (r ≡ OperandStackFull (length (live self.old.stack))) × (length (live self.old.stack) ≡ room self.old.stack) × (self.new.stack ≡ self.old.stack)) }
+        ensures value { pushed OperandStackFull word (stack_of self.old.stack) ≡ (result, stack_of self.new.stack) }
     {
-        if self.stack.is_full() {
+        if !self.stack.has_room() {
             return Err(Refusal::OperandStackFull(self.stack.depth));
         }
         self.stack.place(word);
@@ -58,9 +60,9 @@ impl<'a> OperandStack<'a> {
     /// A push where there is room.
     #[inline(always)]
     pub fn place(&mut self, word: u32)
-        requires { self.old.stack.depth < room self.old.stack }
+        requires { has_room (stack_of self.old.stack) ≡ true }
         ensures same { SameBuffer self.old.stack self.new.stack }
-        ensures value { Pushed word self.old.stack self.new.stack }
+        ensures value { stack_of self.new.stack ≡ with_word word (stack_of self.old.stack) }
     {
         self.stack.place(word);
     }
@@ -68,16 +70,16 @@ impl<'a> OperandStack<'a> {
     /// The word at an index from the top, 0 being the top.
     #[inline(always)]
     pub fn get(&self, index: usize) -> Option<u32>
-        ensures { MatchOption result (length (live self.now.stack) ≤ index) (λ x. (index < length (live self.now.stack)) × (get_or (live self.now.stack) index 0 ≡ x)) }
+        ensures { result ≡ word_at index (stack_of self.now.stack) }
     {
         self.stack.get(index)
     }
 
-    /// Takes the word at an index from the top away; those above it move down.
+    /// Takes the word at an index from the top away; those above it move down, and leave a zero.
     #[inline(always)]
     pub fn remove(&mut self, index: usize) -> Option<u32>
         ensures same { SameBuffer self.old.stack self.new.stack }
-        ensures value { MatchOption result ((length (live self.old.stack) ≤ index) × (self.new.stack ≡ self.old.stack)) (λ x. (index < length (live self.old.stack)) × (get_or (live self.old.stack) index 0 ≡ x) × Removed index self.old.stack self.new.stack) }
+        ensures value { removed index (stack_of self.old.stack) ≡ (result, stack_of self.new.stack) }
     {
         self.stack.remove(index)
     }

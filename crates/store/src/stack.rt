@@ -32,36 +32,42 @@ fn close_gap(words: &mut [u32], place: usize, end: usize)
 }
 
 impl<'a> Stack<'a> {
-    ghost use Rattle.std.specs.Prelude.{◌≡◌, ◌<◌, [], length, true, false, ◌↔◌, ◌≤◌, IsTrue, MatchOption, get_or};
-    ghost use Rattle.store.specs.Stacks.{live, room, SameBuffer, Popped, Pushed, Removed};
+    ghost use Rattle.std.specs.Prelude.{◌≡◌, true};
+    ghost use Rattle.stack_assembly.specs.Machine.{has_room, with_word};
+    ghost use Rattle.store.specs.Stacks.{stack_of, Popped, word_at, removed, SameBuffer};
 
-    /// Whether it has as many words as its buffer.
+    /// Whether it has fewer words than its buffer.
     #[inline(always)]
-    pub fn is_full(&self) -> bool
-        ensures { IsTrue result ↔ (self.now.depth ≡ room self.now) }
+    #[tactic(auto, using(crate::proofs::Stacks::room_above), unfolding(crate::specs::Stacks::stack_of))]
+    pub fn has_room(&self) -> bool
+        ensures { result ≡ has_room (stack_of self.now) }
     {
-        self.depth == self.words.len()
+        self.depth < self.words.len()
     }
 
-    /// Takes the top word away; `None` where there is none.
+    /// Takes the top word away, and leaves a zero in its place; `None` where there is none.
     #[inline(always)]
+    #[tactic(auto, using(crate::proofs::Stacks::pops_live, crate::proofs::Stacks::pops_above), unfolding(crate::specs::Stacks::stack_of, stack_assembly::specs::Host::live))]
     pub fn pop(&mut self) -> Option<u32>
         ensures same { SameBuffer self.old self.new }
-        ensures value { MatchOption result ((live self.old ≡ []) × (self.new ≡ self.old)) (λ x. Popped x self.old self.new) }
+        ensures value { Popped result (stack_of self.old) (stack_of self.new) }
     {
         if self.depth == 0 {
             return None;
         }
         self.depth -= 1;
-        Some(self.words[self.depth])
+        let word = self.words[self.depth];
+        self.words[self.depth] = 0;
+        Some(word)
     }
 
     /// Puts a word on top, where there is room.
     #[inline(always)]
+    #[tactic(auto, using(crate::proofs::Stacks::room_above, crate::proofs::Stacks::places), unfolding(crate::specs::Stacks::stack_of, stack_assembly::specs::Host::live))]
     pub fn place(&mut self, word: u32)
-        requires { self.old.depth < room self.old }
+        requires { has_room (stack_of self.old) ≡ true }
         ensures same { SameBuffer self.old self.new }
-        ensures value { Pushed word self.old self.new }
+        ensures value { stack_of self.new ≡ with_word word (stack_of self.old) }
     {
         self.words[self.depth] = word;
         self.depth += 1;
@@ -69,8 +75,9 @@ impl<'a> Stack<'a> {
 
     /// The word at an index from the top, 0 being the top.
     #[inline(always)]
+    #[tactic(auto, using(crate::proofs::Stacks::depth_in), unfolding(crate::specs::Stacks::stack_of, stack_assembly::specs::Host::live))]
     pub fn get(&self, index: usize) -> Option<u32>
-        ensures { MatchOption result (length (live self.now) ≤ index) (λ x. (index < length (live self.now)) × (get_or (live self.now) index 0 ≡ x)) }
+        ensures { result ≡ word_at index (stack_of self.now) }
     {
         if index < self.depth {
             Some(self.words[self.depth - 1 - index])
@@ -79,15 +86,17 @@ impl<'a> Stack<'a> {
         }
     }
 
-    /// Takes the word at an index from the top away; those above it move down.
+    /// Takes the word at an index from the top away; those above it move down, and leave a zero.
     #[inline(always)]
+    #[tactic(auto, using(crate::proofs::Stacks::depth_in, crate::proofs::Stacks::removes), unfolding(crate::specs::Stacks::stack_of, stack_assembly::specs::Host::live))]
     pub fn remove(&mut self, index: usize) -> Option<u32>
         ensures same { SameBuffer self.old self.new }
-        ensures value { MatchOption result ((length (live self.old) ≤ index) × (self.new ≡ self.old)) (λ x. (index < length (live self.old)) × (get_or (live self.old) index 0 ≡ x) × Removed index self.old self.new) }
+        ensures value { removed index (stack_of self.old) ≡ (result, stack_of self.new) }
     {
         let word = self.get(index)?;
         let depth = self.depth;
         close_gap(self.words, depth - 1 - index, depth);
+        self.words[depth - 1] = 0;
         self.depth = depth - 1;
         Some(word)
     }

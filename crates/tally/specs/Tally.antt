@@ -21,7 +21,7 @@ pub record Printed : Type 0 where
 
 -- By the number that compile answered: a refusal stands alone, with steps 0; else it is the run's answer, and the operands that the run left.
 abbrev pub printed : (number value : ℕ) → (ran : Done) → Printed
-printed zero value ran = record { answer = ran.answer; operands = ran.machine.store.operands }
+printed zero value ran = record { answer = ran.answer; operands = ran.machine.store.operands.live }
 printed (suc n) value ran = record { answer = answer (suc n) value 0; operands = [] }
 
 -- A script is compiled and run once, from a fresh start, with a budget of 1,000,000.

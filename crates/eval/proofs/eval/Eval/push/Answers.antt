@@ -1,10 +1,9 @@
-use Rattle.eval.specs.Lends.{tables_of, left}
+use Rattle.std.proofs.Common.{arith}
+use Rattle.std.proofs.lemmas.Grind.{common_steps}
+use Rattle.stack_assembly.specs.Run.{push_call, performed, host_pushed}
 use Rattle.eval.proofs.Calls.{lent_called}
-use Rattle.eval.proofs.Singles.{push_called}
 use Rattle.eval.proofs.eval.Eval.push.Goals as goal
 
 pub returns-clause-called : goal.returns-clause-called
-returns-clause-called c =
-    let m = c.in_ok-machine.machine in
-    lent_called c.in_ok-machine.ensures c.put_back.ensures (λ f.
-    push_called (left (tables_of c.args.self.now) m) m.operands.stack c.push-pushed.new.self.stack f c.push-pushed.ensures.same c.args.word c.push-pushed.result c.push-pushed.ensures.value)
+unfolding performed host_pushed
+returns-clause-called c = lent_called c.in_ok-machine.ensures (push_call c.args.word) c.put_back.ensures _ (grind (arith, common_steps))

@@ -1,26 +1,26 @@
 use Rattle.std.proofs.Common.{arith, ◌∙◌}
-use Rattle.machine.proofs.Going.{going_ends, going_on, going_stops}
+use Rattle.machine.proofs.UnderWay.{budget_ends, step_made, step_stops}
 use Rattle.machine.proofs.machine.Machine.make_steps.Goals as goal
 
 pub returns-in-Err-clause-ran : goal.returns-in-Err-clause-ran
 returns-in-Err-clause-ran g c =
-    rw c.ended.ensures (going_stops c.loop-step.invariant.going (omega arith) c.in-Err.end (rw c.loop-step.invariant.script at c.in-Err.ensures.stepped))
+    rw c.ended.ensures (step_stops c.loop-step.invariant.under_way (omega arith) c.in-Err.end (rw c.loop-step.invariant.script at c.in-Err.ensures.stepped))
 
 pub returns-then-self-at-clause-ran : goal.returns-then-self-at-clause-ran
 returns-then-self-at-clause-ran g c =
     record {
       steps = omega arith;
       effect = c.in_default.ensures.effect;
-      going = going_on c.loop-step.invariant.going (omega arith) (rw c.loop-step.invariant.script at c.in_default.ensures.stepped);
+      under_way = step_made c.loop-step.invariant.under_way (omega arith) (rw c.loop-step.invariant.script at c.in_default.ensures.stepped);
     }
 
 pub loop-step-preserved : goal.loop-step-preserved
 loop-step-preserved g c =
     record {
-      going = going_on c.loop-step.invariant.going (omega arith) (rw c.loop-step.invariant.script at c.in_default.ensures.stepped);
+      under_way = step_made c.loop-step.invariant.under_way (omega arith) (rw c.loop-step.invariant.script at c.in_default.ensures.stepped);
       effect = λ _. c.in_default.ensures.effect;
       script = c.advance.ensures.script ∙ c.loop-step.invariant.script;
     }
 
 pub returns-clause-ran : goal.returns-clause-ran
-returns-clause-ran g c = going_ends c.loop-step.invariant.going (omega arith)
+returns-clause-ran g c = budget_ends c.loop-step.invariant.under_way (omega arith)
