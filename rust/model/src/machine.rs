@@ -21,13 +21,18 @@ pub const RETURN: Stop = Stop::Effect(9);
 pub const UNKNOWN_IDENTIFIER: Stop = Stop::Effect(10);
 pub const YIELD: Stop = Stop::Effect(11);
 
+/// A word that is released from a stack becomes zero.
+fn released(place: &mut u32) -> u32 {
+    std::mem::take(place)
+}
+
 impl Lent<'_> {
     pub(crate) fn pop(&mut self) -> Result<u32, Stop> {
         if self.state.operand_depth == 0 {
             return Err(OPERAND_STACK_UNDERFLOW);
         }
         self.state.operand_depth -= 1;
-        Ok(self.operand_stack[self.state.operand_depth])
+        Ok(released(&mut self.operand_stack[self.state.operand_depth]))
     }
 
     pub(crate) fn push(&mut self, word: u32) {
@@ -59,8 +64,14 @@ impl Lent<'_> {
             return Err(RETURN);
         }
         self.state.call_depth -= 1;
-        self.state.next_operator = self.call_stack[self.state.call_depth];
+        self.state.next_operator = released(&mut self.call_stack[self.state.call_depth]);
         Ok(())
+    }
+
+    /// The words above a place move down by one, and the place that becomes free at the top is released.
+    pub(crate) fn close_gap(&mut self, place: usize) -> Result<(), Stop> {
+        self.operand_stack.copy_within(place + 1..self.state.operand_depth, place);
+        self.pop().map(|_| ())
     }
 
     /// Where the operand with this index from the top stands, 0 being the top.

@@ -104,11 +104,10 @@ fn copy_or_drop(name: &[u8], lent: &mut Lent) -> Result<(), Stop> {
     let place = lent.operand_at(index)?;
     if name == b"copy" {
         lent.push(lent.operand_stack[place]);
+        Ok(())
     } else {
-        lent.operand_stack.copy_within(place + 1..lent.state.operand_depth, place);
-        lent.state.operand_depth -= 1;
+        lent.close_gap(place)
     }
-    Ok(())
 }
 
 fn go(name: &[u8], lent: &mut Lent) -> Result<(), Stop> {

@@ -1,4 +1,4 @@
-//! Document 01's cards 1 to 13, worked by the model.
+//! Document 01's cards 1 to 13, worked by the model, and the words that are left above the depths.
 
 use model::{Call, Engine, Lent, Model, State};
 
@@ -129,4 +129,42 @@ fn card_11_and_12() {
 fn card_13() {
     assert_eq!(Desk::new(b"\x31\xC2\xA0\x32").ranges(), [(0, 1), (3, 4)]);
     assert_eq!(Desk::new(b"\xC2").compiled, [21, 0, 0, 0]);
+}
+
+/// Both buffers after a run, of nines at first: so many words of the operand stack, and two of the call stack.
+fn stacks<const COUNT: usize>(text: &str) -> ([u32; COUNT], [u32; 2]) {
+    let mut desk = Desk::new(text);
+    desk.run();
+    let (operands, calls) = (desk.operand_stack.first_chunk(), desk.call_stack.first_chunk());
+    (*operands.expect("it is longer"), *calls.expect("it is longer"))
+}
+
+#[test]
+fn a_released_word_becomes_zero() {
+    assert_eq!(stacks("1 2 +"), ([3, 0, 9], [9, 9]));
+    assert_eq!(stacks("1 +"), ([0, 9, 9], [9, 9]));
+    assert_eq!(stacks("7 0 /"), ([0, 0, 9], [9, 9]));
+    assert_eq!(stacks("7 8 6 2 drop"), ([8, 6, 0, 0, 9], [9, 9]));
+    assert_eq!(stacks("7 8 0 drop"), ([7, 0, 0, 9], [9, 9]));
+    assert_eq!(stacks("7 2 drop"), ([7, 0, 9], [9, 9]));
+    assert_eq!(stacks("@a call yield a: return"), ([0, 9, 9], [0, 9]));
+    assert_eq!(stacks("1 @a call_either a: 5"), ([0, 0, 9], [3, 9]));
+    assert_eq!(stacks("1 @a @b call_either a: yield b: return"), ([0, 0, 0, 9], [4, 9]));
+}
+
+#[test]
+fn a_word_that_the_host_pops_becomes_zero() {
+    let mut desk = Desk::new("");
+    assert_eq!((desk.call(Call::Push { word: 7 }), desk.call(Call::Pop)), ([0, 0, 0], [0, 7, 0]));
+    assert_eq!((desk.call(Call::Pop), desk.call(Call::Clear)), ([30, 0, 0], [0, 0, 0]));
+    assert_eq!(desk.operand_stack[..3], [0, 9, 9]);
+}
+
+#[test]
+fn a_refused_run_has_made_its_steps_and_no_more() {
+    let mut desk = Desk::with_operands("1 2 + 4 5 6", 3);
+    assert_eq!((desk.run(), desk.operand_stack.as_slice()), ([27, 3, 5], &[3, 4, 5][..]));
+    let mut desk = Desk::new("1 2 + @a call a: 5 @a call");
+    let made = desk.call(Call::Run { budget: 3 });
+    assert_eq!((made, &desk.operand_stack[..3]), ([29, 3, 3], &[3, 0, 9][..]));
 }
