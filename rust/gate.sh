@@ -1,7 +1,7 @@
 #!/bin/sh
-# The gate's part in Rust: the tests of the host crate and of the model, the examples, the fixed list, and the comparison with
-# the Rust for about as many seconds as $1 says (default: 120). What is not at hand is left out, and said. The library is built
-# while cargo tests what does not need it.
+# The gate's part in Rust: the tests of the host crate, the model and the comparison, the examples, the fixed list, and the
+# comparison with the Rust for about as many seconds as $1 says (default: 120). What is not at hand is left out, and said. The
+# library is built while cargo tests what does not need it.
 set -eu
 cd "$(dirname "$0")"
 if ! command -v cargo > /dev/null; then
@@ -15,7 +15,7 @@ library=$!
 cargo test --offline --quiet -p model
 sources=yes
 oracle/import.sh || sources=no
-[ $sources = no ] || cargo test --offline --quiet -p oracle
+[ $sources = no ] || cargo test --offline --quiet -p oracle -p comparison --no-default-features
 wait $library || { cat "$log"; exit 1; }
 tail -n 1 "$log"
 cargo test --offline --quiet -p stack-assembly

@@ -2,8 +2,8 @@
 
 use crate::case::{Action, Case};
 use crate::rust_side::{RustSide, Said};
-use crate::world::World;
-use model::{Call, Engine, Model, Performed, State};
+use crate::world::{Stacks, World};
+use model::{Call, Engine, Model, State};
 use oracle::Script;
 use std::fmt::Debug;
 use std::rc::Rc;
@@ -39,7 +39,7 @@ impl Counts {
 type Checked<T = ()> = Result<T, String>;
 
 fn same<T: PartialEq + Debug>(what: &str, engine: T, model: T) -> Checked {
-    if engine == model { Ok(()) } else { Err(format!("{what}: {engine:?}, document 01 has {model:?}")) }
+    if engine == model { Ok(()) } else { Err(format!("{what}: {engine:?}, the model has {model:?}")) }
 }
 
 fn same_as_rust<T: PartialEq + Debug>(what: &str, engine: T, rust: T) -> Checked {
@@ -78,7 +78,7 @@ struct Play<'a> {
     engine: &'a dyn Engine,
     /// The buffers that the engine is lent.
     answered: World,
-    /// The same, as document 01 has them.
+    /// The same, as the model leaves them.
     defined: World,
     /// The Rust's script, as long as text and tables are those that compile left.
     script: Option<Rc<Script>>,
@@ -162,50 +162,33 @@ impl<'a> Play<'a> {
 
     fn call(&mut self, call: Call, counts: &mut Counts) -> Checked {
         self.catch_up();
-        let operands = self.answered.operand_stack.lent().to_vec();
-        let calls = self.answered.call_stack.lent().to_vec();
+        let before = self.answered.stacks();
         let out = self.engine.call(call, &mut self.answered.lent());
-        let performed = Model.perform(call, &mut self.defined.lent());
-        same("the answer and the state", out, performed.out)?;
+        same("the answer and the state", out, Model.call(call, &mut self.defined.lent()))?;
         counts.steps += out[2];
         self.answered.state = State::answered(&out);
         self.defined.state = self.answered.state;
-        self.check_words(&operands, &calls, &performed)?;
-        let said = self.check_rust(call, &performed)?;
+        self.check_words()?;
+        let said = self.check_rust(call, &out, before)?;
         counts.said(said);
-        self.free_words_agree();
         Ok(())
     }
 
-    /// Live words and memory are the model's; words from the greatest depth on, text and tables are as they were.
-    fn check_words(&self, operands: &[u32], calls: &[u32], performed: &Performed) -> Checked {
+    /// Every word of both stacks and of the memory is the model's; text and tables are as they were.
+    fn check_words(&self) -> Checked {
         let (mine, theirs) = (&self.answered, &self.defined);
-        let state = mine.state;
-        let from = performed.operands_reached.min(operands.len());
-        stays("the operand stack", mine.operand_stack.lent()[from..] == operands[from..])?;
-        let from = performed.calls_reached.min(calls.len());
-        stays("the call stack", mine.call_stack.lent()[from..] == calls[from..])?;
-        stays("text and tables", mine.same_script(theirs))?;
-        let depth = state.operand_depth.min(operands.len());
-        same_words("the operand stack", &mine.operand_stack.lent()[..depth], &theirs.operand_stack.lent()[..depth])?;
-        let depth = state.call_depth.min(calls.len());
-        same_words("the call stack", &mine.call_stack.lent()[..depth], &theirs.call_stack.lent()[..depth])?;
-        same_words("the memory", mine.memory.lent(), theirs.memory.lent())
+        same_words("the operand stack", mine.operand_stack.lent(), theirs.operand_stack.lent())?;
+        same_words("the call stack", mine.call_stack.lent(), theirs.call_stack.lent())?;
+        same_words("the memory", mine.memory.lent(), theirs.memory.lent())?;
+        stays("text and tables", mine.same_script(theirs))
     }
 
-    fn check_rust(&mut self, call: Call, performed: &Performed) -> Checked<Said> {
+    fn check_rust(&mut self, call: Call, out: &[u64; 8], before: Stacks) -> Checked<Said> {
         let Some(rust) = &mut self.rust else { return Ok(Said::Nothing) };
-        let followed = rust.follow(call, &performed.out, &self.answered)?;
+        let followed = rust.follow(call, out, &self.answered)?;
         rust.check_state(&self.answered)?;
-        let reached = (followed.operands_reached, followed.calls_reached);
-        same_as_rust("the greatest depths", (performed.operands_reached, performed.calls_reached), reached)?;
+        rust.check_stacks(&self.answered, before, &followed)?;
         Ok(followed.said)
-    }
-
-    /// Words between depth and greatest depth are free: a forged depth may make them live, so both get the engine's.
-    fn free_words_agree(&mut self) {
-        self.defined.operand_stack.lent_mut().copy_from_slice(self.answered.operand_stack.lent());
-        self.defined.call_stack.lent_mut().copy_from_slice(self.answered.call_stack.lent());
     }
 
     fn beside(&mut self, counts: &mut Counts) -> Checked {

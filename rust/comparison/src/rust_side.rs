@@ -1,6 +1,6 @@
 //! The Rust beside an engine: it is led through the same calls, and says where its answers or its state differ.
 
-use crate::world::World;
+use crate::world::{Stacks, World};
 use model::Call;
 use oracle::script::{Label, Operator};
 use oracle::{EFFECTS, Effect, Eval, OperatorIndex, Script, eval, number, script};
@@ -231,22 +231,32 @@ impl RustSide {
         same("a limit", exceeded, true)
     }
 
-    /// The state and every live word.
+    /// The state and the memory.
     pub fn check_state(&self, world: &World) -> Checked {
         let state = world.state;
         same("next", state.next_operator, eval::peek::next(&self.eval))?;
-        let operands = &world.operand_stack.lent()[..state.operand_depth];
-        same("the operands", operands, self.eval.operand_stack.to_u32_slice())?;
-        let calls = world.call_stack.lent()[..state.call_depth].iter().copied();
-        if !calls.clone().eq(eval::peek::calls(&self.eval)) {
-            let entries: Vec<u32> = eval::peek::calls(&self.eval).collect();
-            same("the call stack", calls.collect(), entries)?;
-        }
+        same("the depths", [state.operand_depth, state.call_depth], self.depths())?;
         let effect = (state.effect != 0).then_some((state.effect, state.effect_operator));
         let standing = eval::peek::effect(&self.eval).map(|(effect, operator)| (number(effect), operator));
         same("the standing effect", effect, standing)?;
         same("the memory", world.memory.lent(), self.eval.memory.to_u32_slice())
     }
+
+    /// Every word of both stacks' buffers.
+    pub fn check_stacks(&self, world: &World, before: Stacks, followed: &Followed) -> Checked {
+        let operands = left(before.operands, self.eval.operand_stack.to_u32_slice(), followed.operands_reached);
+        same("the operand stack", world.operand_stack.lent(), &operands)?;
+        let entries: Vec<u32> = eval::peek::calls(&self.eval).collect();
+        same("the call stack", world.call_stack.lent(), &left(before.calls, &entries, followed.calls_reached))
+    }
+}
+
+/// What a call has to leave in a stack's buffer: the Rust's words, then zeros up to the greatest depth that the Rust reached in
+/// the call, then what stood there before.
+fn left(mut buffer: Vec<u32>, live: &[u32], reached: usize) -> Vec<u32> {
+    buffer[..reached].fill(0);
+    buffer[..live.len()].copy_from_slice(live);
+    buffer
 }
 
 impl Followed {
@@ -291,4 +301,46 @@ fn label(record: &[u32], text: &[u8]) -> Option<Label> {
 
 fn name(bytes: &[u8]) -> Option<String> {
     String::from_utf8(bytes.to_vec()).ok()
+}
+
+#[cfg(test)]
+mod tests {
+    use super::*;
+    use crate::case::Case;
+    use model::{Engine, Model, State};
+
+    fn started(text: &str) -> World {
+        let mut world = World::new(&Case::new(text, Vec::new()));
+        let (text, operators, labels) = world.tables();
+        let out = Model.compile(text, operators, labels);
+        (world.operator_count, world.label_count) = (out[2] as usize, out[3] as usize);
+        world.state = State::from_words(Model.fresh(world.memory.lent_mut()));
+        world
+    }
+
+    const TEXTS: [&str; 6] =
+        ["1 2 3", "1 +", "7 0 /", "7 8 6 1 drop", "@a call yield a: return", "1 @a @b call_either a: b: return"];
+    const STACKS: [fn(&mut World) -> &mut [u32]; 2] = [|world| world.operand_stack.lent_mut(), |world| world.call_stack.lent_mut()];
+
+    /// The Rust alone tells each word of both buffers from any other.
+    #[test]
+    fn no_word_of_a_stack_is_left_open() {
+        for text in TEXTS {
+            let mut world = started(text);
+            let mut rust = RustSide::fresh(Rc::new(Script::compile(text)), world.memory.lent().len());
+            let (call, before) = (Call::Run { budget: 20 }, world.stacks());
+            let out = Model.call(call, &mut world.lent());
+            world.state = State::answered(&out);
+            let followed = rust.follow(call, &out, &world).unwrap();
+            let agrees = |world: &World| rust.check_stacks(world, before.clone(), &followed).is_ok();
+            assert!(agrees(&world), "{text}");
+            for stack in STACKS {
+                for at in 0..stack(&mut world).len() {
+                    stack(&mut world)[at] ^= 1;
+                    assert!(!agrees(&world), "{text}, word {at}");
+                    stack(&mut world)[at] ^= 1;
+                }
+            }
+        }
+    }
 }

@@ -49,6 +49,13 @@ pub struct World {
     pub label_count: usize,
 }
 
+/// What stands in the buffers of both stacks.
+#[derive(Clone)]
+pub struct Stacks {
+    pub operands: Vec<u32>,
+    pub calls: Vec<u32>,
+}
+
 /// Bytes that would lengthen a token, a number or a sequence, were they read.
 const BESIDE_TEXT: [u8; 8] = [b'0', b':', 0x80, 0xBF, b'a', b' ', b'@', b'\n'];
 
@@ -93,6 +100,10 @@ impl World {
             call_stack: self.call_stack.lent_mut(),
             memory: self.memory.lent_mut(),
         }
+    }
+
+    pub fn stacks(&self) -> Stacks {
+        Stacks { operands: self.operand_stack.lent().to_vec(), calls: self.call_stack.lent().to_vec() }
     }
 
     pub fn is_guarded(&self) -> bool {

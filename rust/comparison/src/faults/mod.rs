@@ -3,6 +3,7 @@
 mod beside;
 mod calls;
 mod compiling;
+mod released;
 mod steps;
 mod words;
 
@@ -64,8 +65,8 @@ const PATIENCE: Duration = Duration::from_secs(60);
 
 /// Looks for each fault, and prints the first case that shows it, made short.
 pub fn run(seed: u64) -> bool {
-    let faults: Vec<Fault> =
-        [compiling::faults(), steps::faults(), words::faults(), calls::faults(), beside::faults()].into_iter().flatten().collect();
+    let parts = [compiling::faults(), steps::faults(), words::faults(), calls::faults(), beside::faults(), released::faults()];
+    let faults: Vec<Fault> = parts.into_iter().flatten().collect();
     std::panic::set_hook(Box::new(|_| {}));
     let mut missed = 0;
     for (number, fault) in (1..).zip(&faults) {

@@ -71,7 +71,7 @@ pub fn faults() -> Vec<Fault> {
 }
 
 /// An effect arose in this step.
-fn raised(before: &Before, out: &[u64; 8], effect: u64) -> bool {
+pub fn raised(before: &Before, out: &[u64; 8], effect: u64) -> bool {
     before.state.effect == 0 && out[0] == effect
 }
 

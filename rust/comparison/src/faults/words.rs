@@ -9,7 +9,7 @@ fn fault(name: &'static str, mend: Mend) -> Fault {
 }
 
 /// The word was evaluated without an effect.
-fn made(before: &Before, out: &[u64; 8], word: &str) -> bool {
+pub fn made(before: &Before, out: &[u64; 8], word: &str) -> bool {
     out[0] == 0 && before.word == word.as_bytes()
 }
 
@@ -93,7 +93,7 @@ fn places() -> Vec<Fault> {
             if made(before, out, "drop") && before.top[0] > 0 {
                 let depth = out[4] as usize;
                 let place = depth - before.top[0] as usize;
-                lent.operand_stack.copy_within(place..depth, place + 1);
+                lent.operand_stack.copy_within(place..depth - 1, place + 1);
             }
         }),
         fault("`copy` is off by one", |before, lent, out| {
