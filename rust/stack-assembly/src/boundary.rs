@@ -15,7 +15,8 @@ pub struct State {
     pub effect_operator: u32,
 }
 
-/// All that each of the seven calls is lent.
+/// All that each of the seven calls is lent. In both stacks a call leaves a zero for each word that it releases, and the words at
+/// and above the greatest depth that it reaches as they were.
 #[derive(Debug)]
 pub struct Lent<'a> {
     pub state: State,

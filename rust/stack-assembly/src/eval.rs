@@ -1,26 +1,11 @@
 //! The ongoing evaluation of a script.
 
 use crate::boundary::{self, Answer, Lent, State};
+use crate::buffers::{Buffers, Sizes};
 use crate::effect::Effect;
 use crate::refusal::{Refusal, Stopped};
 use crate::script::{OperatorIndex, Script, Tables};
 use crate::value::{Value, Words};
-
-/// # How many words an evaluation is lent
-///
-/// The defaults are those of the program `tally`.
-#[derive(Clone, Copy, Debug, Eq, Hash, PartialEq)]
-pub struct Sizes {
-    pub operand_stack: usize,
-    pub call_stack: usize,
-    pub memory: usize,
-}
-
-impl Default for Sizes {
-    fn default() -> Self {
-        Sizes { operand_stack: 1024, call_stack: 256, memory: 1024 }
-    }
-}
 
 /// # The ongoing evaluation of a script
 ///
@@ -39,9 +24,7 @@ impl Default for Sizes {
 #[derive(Clone, Debug)]
 pub struct Eval {
     state: State,
-    operand_stack: Box<[u32]>,
-    call_stack: Box<[u32]>,
-    memory: Box<[u32]>,
+    buffers: Buffers,
 }
 
 /// # What ended a run: an effect, the operator that triggered it, and the steps made
@@ -77,15 +60,43 @@ impl Eval {
     /// # Ok::<(), Refusal>(())
     /// ```
     pub fn with_sizes(sizes: Sizes) -> Eval {
-        let mut memory = vec![0; sizes.memory].into_boxed_slice();
-        let [next, operands, calls, effect, operator] = boundary::new(&mut memory);
+        Eval::with_buffers(Buffers::with_sizes(sizes))
+    }
+
+    /// # A fresh evaluation in these buffers
+    ///
+    /// It gives the same as one with new stacks and a new memory of the same sizes.
+    pub fn with_buffers(mut buffers: Buffers) -> Eval {
+        let [next, operands, calls, effect, operator] = boundary::new(&mut buffers.memory);
         let fresh = Answer::from([0, 0, 0, next, operands, calls, effect, operator]);
-        Eval {
-            state: fresh.state,
-            operand_stack: vec![0; sizes.operand_stack].into(),
-            call_stack: vec![0; sizes.call_stack].into(),
-            memory,
-        }
+        Eval { state: fresh.state, buffers }
+    }
+
+    /// # End the evaluation, and hand its buffers on
+    ///
+    /// Every word in them is zero: the memory and the words that are still on a stack are cleared here, and each other word became
+    /// zero when a call released it.
+    ///
+    /// ```
+    /// use stack_assembly::{Eval, Script};
+    ///
+    /// let script = Script::compile("4 5 + 7 71 write")?;
+    /// let mut eval = Eval::new();
+    /// eval.run(&script, 1_000)?;
+    /// assert_eq!(eval.operand_stack().to_i32_slice(), &[9]);
+    /// assert_eq!(eval.read(7)?.to_i32(), 71);
+    ///
+    /// let mut next = Eval::with_buffers(eval.into_buffers());
+    /// assert!(next.operand_stack().is_empty());
+    /// assert_eq!(next.read(7)?.to_i32(), 0);
+    /// # Ok::<(), Box<dyn std::error::Error>>(())
+    /// ```
+    pub fn into_buffers(self) -> Buffers {
+        let Eval { state, mut buffers } = self;
+        buffers.operand_stack[..state.operand_depth].fill(0);
+        buffers.call_stack[..state.call_depth].fill(0);
+        buffers.memory.fill(0);
+        buffers
     }
 
     /// # Advance the evaluation until it triggers an effect, by at most `budget` steps
@@ -137,12 +148,12 @@ impl Eval {
 
     /// # The operand stack, from bottom to top
     pub fn operand_stack(&self) -> Words<'_> {
-        Words::new(&self.operand_stack[..self.state.operand_depth])
+        Words::new(&self.buffers.operand_stack[..self.state.operand_depth])
     }
 
     /// # The memory
     pub fn memory(&self) -> Words<'_> {
-        Words::new(&self.memory)
+        Words::new(&self.buffers.memory)
     }
 
     /// # The call stack, starting with the topmost entry
@@ -151,7 +162,7 @@ impl Eval {
     /// that of the call.
     pub fn call_stack(&self) -> impl Iterator<Item = OperatorIndex> {
         (0..self.state.call_depth).map(|place| {
-            let [_, value, _] = boundary::call_stack(self.state.call_depth, &self.call_stack, place);
+            let [_, value, _] = boundary::call_stack(self.state.call_depth, &self.buffers.call_stack, place);
             OperatorIndex::from(value as u32)
         })
     }
@@ -186,9 +197,9 @@ impl Eval {
             text: tables.text,
             operators: tables.operators,
             labels: tables.labels,
-            operand_stack: &mut self.operand_stack,
-            call_stack: &mut self.call_stack,
-            memory: &mut self.memory,
+            operand_stack: &mut self.buffers.operand_stack,
+            call_stack: &mut self.buffers.call_stack,
+            memory: &mut self.buffers.memory,
         }));
         self.state = answer.state;
         answer

@@ -1,8 +1,8 @@
 //! # StackAssembly in Rust hosts
 //!
 //! A safe crate over the engine that is proved in Rattle, for hosts that used the Rust engine. Names are the original's where
-//! they still mean the same. What changed, by design: sizes are chosen by the host, a run has a budget, and what the engine
-//! refuses is an error.
+//! they still mean the same. What changed, by design: sizes are chosen by the host, a run has a budget, what the engine refuses
+//! is an error, and a word that is released from a stack becomes zero, so that [`Buffers`] can go to the next evaluation.
 //!
 //! ```
 //! use stack_assembly::{Effect, Eval, Script};
@@ -20,6 +20,7 @@
 //! ```
 
 pub mod boundary;
+mod buffers;
 mod effect;
 mod eval;
 pub mod ffi;
@@ -27,8 +28,9 @@ mod refusal;
 mod script;
 mod value;
 
+pub use buffers::{Buffers, Sizes};
 pub use effect::Effect;
-pub use eval::{Eval, Ran, Sizes};
+pub use eval::{Eval, Ran};
 pub use refusal::{Refusal, Stopped};
 pub use script::{OperatorIndex, Script};
 pub use value::{Value, Words};
