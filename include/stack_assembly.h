@@ -72,8 +72,16 @@ void stack_assembly_compile(const uint8_t *text, size_t text_len, uint32_t *oper
 void stack_assembly_new(uint32_t *memory, size_t memory_len, uint64_t out[5]);
 
 /* What each of the following seven calls is lent: the state; both counts, the text and the tables, as compile left them; and the
- * two stacks and the memory, which the call may change. A stack's top is at its depth minus 1. Words at and above the greatest
- * depth that a stack reaches in a call stay as they are. */
+ * two stacks and the memory, which the call may change. A stack's top is at its depth minus 1.
+ *
+ * What a call leaves in a stack: below the depth its words; from there up to the greatest depth that the stack had before or in the
+ * call, zero in each word, since a word that is released (popped, also before an effect, dropped, or returned to) becomes zero; and
+ * from there on all words as they were. In the memory: what the script and you wrote. So in stacks that were zero before the first
+ * call, every word from the depth on is zero after any calls.
+ *
+ * Before you lend such buffers to someone else, clear the words that are left: the first operand_depth words of the operand stack
+ * and the first call_depth words of the call stack; stack_assembly_new clears the memory. The tables keep the records of the last
+ * script, integers among them, where the next one has fewer: clear them whole. */
 #define STACK_ASSEMBLY_LENT                                                                                             \
     uint32_t next_operator, size_t operand_depth, size_t call_depth, uint32_t effect, uint32_t effect_operator,         \
     size_t operator_count, size_t label_count, const uint8_t *text, size_t text_len,                                    \

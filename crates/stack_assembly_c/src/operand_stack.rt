@@ -53,7 +53,7 @@ pub extern "C" fn stack_assembly_push<'a>(
     *out = written(answer, eval.state);
 }
 
-/// Pops an operand; `out` is number, the word, 0 steps, and the state.
+/// Pops an operand, and leaves zero in its place; `out` is number, the word, 0 steps, and the state.
 #[unsafe(no_mangle)]
 pub extern "C" fn stack_assembly_pop<'a>(
     next_operator: u32,
