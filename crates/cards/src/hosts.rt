@@ -27,6 +27,17 @@ pub(crate) fn stacks(rt: &impl Print) -> io::Result<()> {
     )
 }
 
+/// Words that are released: before an effect, by `drop`, by `return`, by the host, and before a run is refused.
+pub(crate) fn released(rt: &impl Print) -> io::Result<()> {
+    println!(rt; "released")?;
+    run(rt, b"1 2 call_either")?;
+    run(rt, b"7 0 /")?;
+    run(rt, b"7 8 6 1 drop")?;
+    run(rt, b"@a call yield a: return")?;
+    card(rt, b"", OPERAND_WORDS, &[Push(7), Push(8), Pop, Pop])?;
+    card(rt, b"1 2 + 3 4", OPERAND_WORDS, &[Run(3), Run(2)])
+}
+
 pub(crate) fn memory(rt: &impl Print) -> io::Result<()> {
     println!(rt; "memory")?;
     card(
