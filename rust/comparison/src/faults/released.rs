@@ -1,18 +1,10 @@
 //! Faults of what is left above the depths: a released word that is no zero, and a word that no call reached.
 
-use super::steps::raised;
+use super::Fault;
+use super::steps::{fault, raised, step_fault};
 use super::words::made;
-use super::{Fault, Wrong, steps};
 use model::{Call, Engine, Lent, Model};
 use std::ops::RangeInclusive;
-
-fn step_fault(name: &'static str, mend: steps::Mend) -> Fault {
-    Fault { name, wrong: Wrong::Step(mend) }
-}
-
-fn fault(name: &'static str, wrong: fn(Call, &mut Lent) -> [u64; 8]) -> Fault {
-    Fault { name, wrong: Wrong::Call(wrong) }
-}
 
 pub fn faults() -> Vec<Fault> {
     let mut faults = of_steps();

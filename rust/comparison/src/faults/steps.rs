@@ -53,11 +53,11 @@ pub fn answer(number: u64, value: u64, steps: u64, state: State) -> [u64; 8] {
     [number, value, steps, next, operands, calls, effect, operator]
 }
 
-fn step_fault(name: &'static str, mend: Mend) -> Fault {
+pub fn step_fault(name: &'static str, mend: Mend) -> Fault {
     Fault { name, wrong: Wrong::Step(mend) }
 }
 
-fn fault(name: &'static str, wrong: fn(Call, &mut Lent) -> [u64; 8]) -> Fault {
+pub fn fault(name: &'static str, wrong: fn(Call, &mut Lent) -> [u64; 8]) -> Fault {
     Fault { name, wrong: Wrong::Call(wrong) }
 }
 
