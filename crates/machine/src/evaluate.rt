@@ -71,14 +71,14 @@ impl Machine<'_> {
                 Word::And => self.binary(|a, b| a & b),
                 Word::Or => self.binary(|a, b| a | b),
                 Word::Xor => self.binary(|a, b| a ^ b),
-                Word::RotateLeft => self.binary(|a, b| bits::rotate_left(a, b)),
-                Word::RotateRight => self.binary(|a, b| bits::rotate_right(a, b)),
+                Word::RotateLeft => self.binary(|a, b| word::rotate_left(a, b)),
+                Word::RotateRight => self.binary(|a, b| word::rotate_right(a, b)),
                 Word::ShiftLeft => self.binary(|a, b| a.wrapping_shl(b)),
                 Word::ShiftRight => self.binary(|a, b| a
                     .cast_signed()
                     .wrapping_shr(b)
                     .cast_unsigned()),
-                Word::CountOnes => self.unary(|a| bits::count_ones(a)),
+                Word::CountOnes => self.unary(|a| word::count_ones(a)),
                 Word::LeadingZeros => self.unary(|a| a.leading_zeros()),
                 Word::TrailingZeros => self.unary(|a| a.trailing_zeros()),
                 Word::Copy => self.copy(),

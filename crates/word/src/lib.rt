@@ -1,10 +1,13 @@
-//! Products and the signed division of words, as Rust's i32 gave them. The other definitions in specs/Word.antt are for the crates bits and machine.
+//! Products, the signed division, a count of bits and rotations of words, as Rust's i32 and u32 gave them. The other definitions in specs/Word.antt are for the
+//! crate machine.
 #![tactic(auto)]
 
 mod arithmetic;
+mod bits;
 mod division;
 mod worked_examples;
 
 pub use arithmetic::wrapping_mul;
+pub use bits::{count_ones, rotate_left, rotate_right};
 pub use division::{DivisionError, divide};
 pub use worked_examples::examples_hold;
