@@ -1,22 +1,23 @@
 -- One pass over the tokens: each turn adds a token's record, and what the tokens left would add completes it.
-use Prim.Native.Nat.{ℕ, ◌+◌, ◌-◌, ◌≤◌, ◌<◌}
+use Prim.Native.Nat.{ℕ, ◌+◌, ◌-◌, ◌/◌, ◌≤◌, ◌<◌}
 use mathlib.Core.Bool.{Bool, true, false, cond}
 use mathlib.Core.List.{List, [], ◌∷◌, map}
 use mathlib.Core.Option.{Option, none, some}
-use mathlib.Core.Path.{◌≡◌, refl, ap, ◌∙◌}
+use mathlib.Core.Path.{◌≡◌, refl, sym, ap, ◌∙◌}
+use Rattle.std.specs.Prelude.{Some, None}
+use Rattle.std.proofs.lemmas.Option.{none-some, cond_some}
 use native.Mathlib.Omega.{arith}
 use lib.ListN.{length, take, drop}
 use lib.Seq.{slice}
 use Rattle.base.proofs.Parts.{between}
 use Rattle.tokens.specs.Tokens.{Token, tokens}
 use Rattle.tokens.proofs.Bounds.{Inside, inside, few}
-use Rattle.kinds.specs.declared.kind.Kind as answer
 use Rattle.kinds.specs.Numbers.{or_else, i32_or_u32}
 use Rattle.kinds.specs.Kinds.{Kind, label, reference, integer, identifier, ends_in_colon, begins_with_at, hexadecimal, integer_or, kind_of}
 use Rattle.kinds.specs.Answers.{kind_answer}
 use Rattle.stack_assembly.specs.Script.{Operator, Label, operator, operator_then, label_then, operators_of, labels_of, script_of, operator_words, label_words}
-use Rattle.compile.specs.Private.{kind_word, value_word, record_of, put, puts, Passes}
-use Rattle.compile.proofs.Tables.{put-length}
+use Rattle.compile.specs.Private.{words_by, record_of, put, puts, Passes}
+use Rattle.compile.proofs.Tables.{put-length, put_past}
 
 -- Of a text whose tokens are left from one on, n operators and m labels are counted, and those that fit are written.
 pub record Passing (text operators₀ labels₀ operators labels : List ℕ) (left : List Token) (n m : ℕ) : Type 0 where
@@ -50,35 +51,33 @@ pub counted-small : {text operators₀ labels₀ operators labels : List ℕ} {l
 counted-small {text} h v = omega (arith, v.few, few text)
 
 -- ---- the next token, and the records that are left with it
-IsOperator : Kind → Type 0
-IsOperator label = ⊥
-IsOperator reference = Unit {0}
-IsOperator (integer bits) = Unit {0}
-IsOperator identifier = Unit {0}
+-- a token of this kind is an operator, of these words
+record Is (k : Kind) (t : Token) (words : List ℕ) : Type 0 where
+  operator : Operator
+  holds : operator_words operator ≡ words
+  stands : (later : List Operator) → operator_then k t later ≡ operator ∷ later
+  no_label : (n : ℕ) (later : ℕ → List Label) → label_then k t n later ≡ later (n + 1)
 
-no_colon : (bytes : List ℕ) → ends_in_colon bytes ≡ false → IsOperator (kind_of bytes)
-unfolding kind_of IsOperator
-no_colon bytes e = rw e (go (begins_with_at bytes) (or_else (hexadecimal bytes) (i32_or_u32 10 bytes)))
+is-some : (k : Kind) (t : Token) {words : List ℕ} → words_by (kind_answer k) t.start t.end ≡ Some words → Is k t words
+is-some label t e = absurd (none-some _ e)
+is-some reference t e = record { operator = operator 2 t.start t.end 0; holds = (cond_some true _ _ e).1; stands = λ _. refl; no_label = λ _ _. refl }
+is-some (integer bits) t e = record { operator = operator 1 t.start t.end bits; holds = (cond_some true _ _ e).1; stands = λ _. refl; no_label = λ _ _. refl }
+is-some identifier t e = record { operator = operator 0 t.start t.end 0; holds = (cond_some true _ _ e).1; stands = λ _. refl; no_label = λ _ _. refl }
+
+is-none : (k : Kind) (t : Token) → words_by (kind_answer k) t.start t.end ≡ None → k ≡ label
+is-none label t e = refl
+is-none reference t e = absurd (none-some _ (sym e))
+is-none (integer bits) t e = absurd (none-some _ (sym e))
+is-none identifier t e = absurd (none-some _ (sym e))
+
+no_colon : (bytes : List ℕ) (t : Token) → ends_in_colon bytes ≡ false → (words : List ℕ) × (words_by (kind_answer (kind_of bytes)) t.start t.end ≡ Some words)
+unfolding kind_of
+no_colon bytes t e = rw e (go (begins_with_at bytes) (or_else (hexadecimal bytes) (i32_or_u32 10 bytes)))
   where
-    go : (t : Bool) (number : Option ℕ) → IsOperator (cond t reference (integer_or number))
-    go true number = tt
-    go false none = tt
-    go false (some n) = tt
-
-operator_of : (k : Kind) (t : Token) (later : List Operator) → IsOperator k
-    → operator_then k t later ≡ operator (kind_word (kind_answer k)) t.start t.end (value_word (kind_answer k)) ∷ later
-unfolding IsOperator
-operator_of label t later h = absurd h
-operator_of reference t later h = refl
-operator_of (integer bits) t later h = refl
-operator_of identifier t later h = refl
-
-no_label_of : (k : Kind) (t : Token) (n : ℕ) (later : ℕ → List Label) → IsOperator k → label_then k t n later ≡ later (n + 1)
-unfolding IsOperator
-no_label_of label t n later h = absurd h
-no_label_of reference t n later h = refl
-no_label_of (integer bits) t n later h = refl
-no_label_of identifier t n later h = refl
+    go : (at : Bool) (number : Option ℕ) → (words : List ℕ) × (words_by (kind_answer (cond at reference (integer_or number))) t.start t.end ≡ Some words)
+    go true number = (_, refl)
+    go false none = (_, refl)
+    go false (some n) = (_, refl)
 
 module _ (text : List ℕ) {t : Token} {later left : List Token} (next : left ≡ t ∷ later) where
   -- where it stands
@@ -92,10 +91,17 @@ module _ (text : List ℕ) {t : Token} {later left : List Token} (next : left �
     pub token_inside : t.end ≤ length text
     token_inside = here.1
 
-  module _ (colon : ends_in_colon (take (t.end - t.start) (drop t.start text)) ≡ true) where
+  -- its bytes, as the code has them
+  abbrev name : List ℕ
+  name = take (t.end - t.start) (drop t.start text)
+
+  pub by_colon : ends_in_colon name ≡ true → record_of name t.start t.end ≡ None
+  unfolding kind_of
+  by_colon e = rw e
+
+  module _ (none : record_of name t.start t.end ≡ None) where
     is_label : kind_of (slice t.start t.end text) ≡ label
-    unfolding kind_of
-    is_label = rw (← between t.start t.end text, colon)
+    is_label = rw (← between t.start t.end text) (is-none (kind_of name) t none)
 
     label-operators : operators_of text left ≡ operators_of text later
     unfolding operators_of
@@ -120,23 +126,17 @@ module _ (text : List ℕ) {t : Token} {later left : List Token} (next : left �
             label_table = rw e (rw (label-labels n) at v.label_table);
           }
 
-  module _ (colon : ends_in_colon (take (t.end - t.start) (drop t.start text)) ≡ false) where
-    abbrev k : answer.Kind
-    k = kind_answer (kind_of (take (t.end - t.start) (drop t.start text)))
+  module _ {words : List ℕ} (some : record_of name t.start t.end ≡ Some words) where
+    is : Is (kind_of (slice t.start t.end text)) t words
+    is = rw (← between t.start t.end text) (is-some (kind_of name) t some)
 
-    abbrev words : List ℕ
-    words = record_of (take (t.end - t.start) (drop t.start text)) t.start t.end
-
-    is_operator : IsOperator (kind_of (slice t.start t.end text))
-    is_operator = no_colon (slice t.start t.end text) (rw (← between t.start t.end text) colon)
-
-    other-operators : operators_of text left ≡ operator (kind_word k) t.start t.end (value_word k) ∷ operators_of text later
+    other-operators : operators_of text left ≡ is.operator ∷ operators_of text later
     unfolding operators_of
-    other-operators = ap (operators_of text) next ∙ rw (between t.start t.end text) (operator_of (kind_of (slice t.start t.end text)) _ _ is_operator)
+    other-operators = ap (operators_of text) next ∙ is.stands _
 
     other-labels : (n : ℕ) → labels_of text n left ≡ labels_of text (n + 1) later
     unfolding labels_of
-    other-labels n = ap (labels_of text n) next ∙ no_label_of (kind_of (slice t.start t.end text)) _ n _ is_operator
+    other-labels n = ap (labels_of text n) next ∙ is.no_label n _
 
     module _ {operators₀ labels₀ operators operators' labels : List ℕ} {n m : ℕ} (v : Passing text operators₀ labels₀ operators labels left n m) where
       pub passing_operator : operators' ≡ put 4 operators n words → Passing text operators₀ labels₀ operators' labels later (n + 1) m
@@ -149,9 +149,14 @@ module _ (text : List ℕ) {t : Token} {later left : List Token} (next : left �
             label_room = v.label_room;
             operator_count = omega (arith, ap length other-operators, v.operator_count);
             label_count = rw (other-labels n) at v.label_count;
-            operator_table = rw e (rw other-operators at v.operator_table);
+            operator_table = rw (e, ← is.holds) (rw other-operators at v.operator_table);
             label_table = rw (other-labels n) at v.label_table;
           }
+
+  -- where no more is written
+  module _ {operators₀ labels₀ operators labels : List ℕ} {n m : ℕ} (v : Passing text operators₀ labels₀ operators labels left n m) where
+    pub passing_counted : ends_in_colon name ≡ false → length operators / 4 ≤ n → Passing text operators₀ labels₀ operators labels later (n + 1) m
+    passing_counted e full = let some = no_colon name t e in passing_operator some.1 v (put_past 4 n operators some.0 full)
 
 -- no token is left
 module _ {text operators₀ labels₀ operators labels : List ℕ} {left : List Token} {n m : ℕ} (v : Passing text operators₀ labels₀ operators labels left n m) (none_left : left ≡ []) where

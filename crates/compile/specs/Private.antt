@@ -1,5 +1,5 @@
 -- What the private functions ask and promise; no public contract cites it.
-use Rattle.std.specs.Prelude.{ℕ, ◌+◌, ◌*◌, ◌/◌, ◌≤◌, cond, List, [], ◌∷◌, map, ◌≡◌, ltb, length}
+use Rattle.std.specs.Prelude.{ℕ, ◌+◌, ◌*◌, ◌/◌, ◌≤◌, cond, List, [], ◌∷◌, map, ◌≡◌, ltb, length, Option, Some, None}
 use Rattle.std.proofs.lemmas.List.Edits.{sets}
 use Rattle.kinds.specs.declared.kind.Kind.{Kind}
 use Rattle.kinds.specs.declared.kind.Kind.TheVariants.{Label, Reference, Integer, Identifier}
@@ -8,24 +8,16 @@ use Rattle.kinds.specs.Answers.{kind_answer}
 use Rattle.stack_assembly.specs.Script.{script_of, operator_words, label_words, operator_capacity, label_capacity}
 use Rattle.records.specs.declared.counts.Counts.{Counts}
 
--- The first and the last word of an operator's record, by its kind.
-abbrev pub kind_word : Kind → ℕ
-kind_word Label = 0
-kind_word Reference = 2
-kind_word (Integer bits) = 1
-kind_word Identifier = 0
-
-abbrev pub value_word : Kind → ℕ
-value_word Label = 0
-value_word Reference = 0
-value_word (Integer bits) = bits
-value_word Identifier = 0
+-- The words of an operator's record, by its kind; a label has none.
+abbrev pub words_by : Kind → (start end : ℕ) → Option (List ℕ)
+words_by Label start end = None
+words_by Reference start end = Some (2 ∷ start ∷ end ∷ 0 ∷ [])
+words_by (Integer bits) start end = Some (1 ∷ start ∷ end ∷ bits ∷ [])
+words_by Identifier start end = Some (0 ∷ start ∷ end ∷ 0 ∷ [])
 
 -- The words of a token's record as an operator.
-abbrev pub record_of : (token : List ℕ) (start end : ℕ) → List ℕ
-record_of token start end =
-    let k : Kind = kind_answer (kind_of token) in
-    kind_word k ∷ start ∷ end ∷ value_word k ∷ []
+abbrev pub record_of : (token : List ℕ) (start end : ℕ) → Option (List ℕ)
+record_of token start end = words_by (kind_answer (kind_of token)) start end
 
 -- A record of so many words at its place in the table, where that is in the table.
 unfoldable pub put : (width : ℕ) (table : List ℕ) (index : ℕ) (words : List ℕ) → List ℕ

@@ -1,5 +1,5 @@
 // One pass over a text's tokens, which counts their records and writes those that fit.
-ghost use Rattle.std.specs.Prelude.{[], ◌∷◌, ◌≡◌, ◌<◌, ◌≤◌, ◌-◌, length};
+ghost use Rattle.std.specs.Prelude.{Some, None, MatchOption, [], ◌∷◌, ◌≡◌, ◌<◌, ◌≤◌, ◌-◌, length};
 ghost use Rattle.stack_assembly.specs.Script.{operator_words, label_words, longest};
 ghost use Rattle.records.specs.Records.{operator_of, label_of};
 ghost use Rattle.compile.specs.Private.{record_of, Passes};
@@ -9,22 +9,24 @@ use kinds::{Kind, is_label, kind_of};
 use records::{Counts, LabelRecord, OperatorKind, OperatorRecord};
 use tokens::{Token, Tokens};
 
-// The record of a token that is no label.
-fn operator_record(token: Token, name: &[u8]) -> OperatorRecord
+// The record of a token; a label has none.
+fn operator_record(token: Token, name: &[u8]) -> Option<OperatorRecord>
     requires { (token.start ≤ longest) × (token.end ≤ longest) }
-    ensures { operator_words (operator_of result) ≡ record_of name.now token.start token.end }
+    ensures { MatchOption result (record_of name.now token.start token.end ≡ None)
+        (λ r. record_of name.now token.start token.end ≡ Some (operator_words (operator_of r))) }
 {
     let (kind, value) = match kind_of(name) {
-        Kind::Label | Kind::Identifier => (OperatorKind::Identifier, 0),
-        Kind::Integer(bits) => (OperatorKind::Integer, bits),
+        Kind::Label => return None,
         Kind::Reference => (OperatorKind::Reference, 0),
+        Kind::Integer(bits) => (OperatorKind::Integer, bits),
+        Kind::Identifier => (OperatorKind::Identifier, 0),
     };
-    OperatorRecord {
+    Some(OperatorRecord {
         kind,
         start: token.start as u32,
         end: token.end as u32,
         value,
-    }
+    })
 }
 
 // A label's name stops before its colon.
@@ -55,12 +57,15 @@ pub(crate) fn pass(text: &str, operators: &mut [u32], labels: &mut [u32]) -> Cou
     };
     for token in Tokens::new(text) {
         let name = &bytes[token.start..token.end];
-        if is_label(name) {
+        if operators.has_room::<OperatorRecord>() {
+            match operator_record(token, name) {
+                Some(record) => operators.push(record),
+                None => labels.push(label_record(token, operators.count)),
+            }
+        } else if is_label(name) {
             labels.push(label_record(token, operators.count));
-        } else if operators.has_room::<OperatorRecord>() {
-            operators.push(operator_record(token, name));
         } else {
-            // What is only counted needs no kind: with one, a script that is read twice took 1.14 times as many instructions.
+            // What is only counted needs no other kind: with one, a script that is read twice took 1.14 times as many instructions.
             operators.count += 1;
         }
     }
