@@ -4,7 +4,7 @@ ghost use Rattle.std.specs.Prelude.{◌≡◌, ◌<◌, ◌↔◌, IsTrue, OnSom
 use crate::call;
 use eval::Eval;
 use evaluation::Buffers;
-use lists::List;
+use fields::List;
 use records::{LabelRecord, OperatorRecord, Record};
 
 // The greatest sizes of a case: its text in bytes, the buffers in words, the rest in records and calls.

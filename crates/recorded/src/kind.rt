@@ -3,7 +3,7 @@ ghost use Rattle.std.specs.Prelude.{◌≤◌, IfOk, length};
 
 use crate::case::Case;
 use crate::tally::Tally;
-use lists::{List, Numbers};
+use fields::{List, Numbers};
 use std::fs::File;
 use std::io;
 use std::io::Read;

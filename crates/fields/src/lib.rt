@@ -1,4 +1,4 @@
-//! Lists of numbers, as the files of recorded cases hold them.
+//! The fields of recorded cases: parts of lists of numbers, as their files hold them.
 #![tactic(auto)]
 
 mod list;
