@@ -1,5 +1,5 @@
 -- What compile answers, and both tables after it, by the tests that lead there.
-use Prim.Native.Nat.{ℕ, suc, ◌*◌, ◌/◌, ◌≤◌, ◌<◌}
+use Prim.Native.Nat.{ℕ, ◌*◌, ◌/◌, ◌≤◌, ◌<◌}
 use mathlib.Core.List.{List, ◌++◌, flat_map}
 use mathlib.Core.Option.{none, some}
 use mathlib.Core.Path.{◌≡◌, refl, ◌∙◌}
@@ -7,7 +7,7 @@ use native.Mathlib.Omega.{arith}
 use borrow.Author.Tests.{lt-ltb, le-ltb}
 use lib.ListN.{length, take, drop}
 use Rattle.utf8.specs.Utf8.{chars, ill_formed_at}
-use Rattle.stack_assembly.specs.Script.{CompileAnswer, script_of, operator_capacity, label_capacity, operator_words, label_words, operator_table, label_table, operator_in, label_in, rejected, accepted, longest, fitted, checked, compile_answer, compile}
+use Rattle.stack_assembly.specs.Script.{CompileAnswer, script_of, operator_capacity, label_capacity, operator_words, label_words, operator_table, label_table, operator_in, label_in, CompileError, IllFormed, TooLong, TooManyOperators, TooManyLabels, rejected, accepted, longest, fitted, checked, compile_answer, compile}
 use Rattle.stack_assembly.specs.Promise.{Compiles}
 use Rattle.stack_assembly.proofs.Records.{words-length}
 use Rattle.records.specs.declared.counts.Counts.{Counts}
@@ -18,14 +18,19 @@ module _ (text operators labels : List ℕ) where
   abbrev answered : CompileAnswer
   answered = compile_answer text (operator_capacity operators) (label_capacity labels)
 
-  refused : (number value : ℕ) → answered ≡ rejected (suc number) value
-      → Compiles text operators labels (record { answer = rejected (suc number) value; operators = operators; labels = labels })
-  unfolding compile
-  refused number value e = rw e
+  abbrev Refuses : CompileError → Type 0
+  Refuses e = Compiles text operators labels (record { answer = rejected e; operators = operators; labels = labels })
 
-  pub too_long : longest < length text → Compiles text operators labels (record { answer = rejected 22 longest; operators = operators; labels = labels })
+  refused : (e : CompileError) → answered ≡ rejected e → Refuses e
+  unfolding compile
+  refused (IllFormed offset) e = rw e
+  refused TooLong e = rw e
+  refused (TooManyOperators n) e = rw e
+  refused (TooManyLabels n) e = rw e
+
+  pub too_long : longest < length text → Refuses TooLong
   unfolding compile_answer
-  too_long h = refused 21 longest (rw (lt-ltb longest (length text) h))
+  too_long h = refused TooLong (rw (lt-ltb longest (length text) h))
 
   module _ (short : length text ≤ longest) where
     not_long : answered ≡ checked (ill_formed_at (chars text)) (fitted (operator_capacity operators) (label_capacity labels) (length (script_of text).operators) (length (script_of text).labels))
@@ -38,8 +43,8 @@ module _ (text operators labels : List ℕ) where
     label-words : length (flat_map label_words (script_of text).labels) ≡ length (script_of text).labels * 3
     label-words = words-length 3 label_words label_in (λ _. refl) (λ _. refl) (script_of text).labels
 
-    pub ill-formed : {at : ℕ} → ill_formed_at (chars text) ≡ some at → Compiles text operators labels (record { answer = rejected 21 at; operators = operators; labels = labels })
-    ill-formed {at} e = refused 20 at (not_long ∙ rw e)
+    pub ill-formed : {at : ℕ} → ill_formed_at (chars text) ≡ some at → Refuses (IllFormed at)
+    ill-formed {at} e = refused (IllFormed at) (not_long ∙ rw e)
 
     module _ (well_formed : ill_formed_at (chars text) ≡ none) where
       filled : HasRoom text operators labels → {n m : ℕ} {operators' labels' : List ℕ} → n ≡ length (script_of text).operators → m ≡ length (script_of text).labels
@@ -66,12 +71,12 @@ module _ (text operators labels : List ℕ) where
         counted : answered ≡ fitted (operator_capacity operators) (label_capacity labels) c.operators c.labels
         counted = not_long ∙ rw (well_formed, ← p.operator_count, ← p.label_count)
 
-        pub too_many_operators : length operators / 4 < c.operators → Compiles text operators labels (record { answer = rejected 23 c.operators; operators = operators; labels = labels })
-        too_many_operators h = refused 22 c.operators (counted ∙ rw (lt-ltb (length operators / 4) c.operators h))
+        pub too_many_operators : length operators / 4 < c.operators → Refuses (TooManyOperators c.operators)
+        too_many_operators h = refused (TooManyOperators c.operators) (counted ∙ rw (lt-ltb (length operators / 4) c.operators h))
 
         module _ (operators-fit : c.operators ≤ length operators / 4) where
-          pub too_many_labels : length labels / 3 < c.labels → Compiles text operators labels (record { answer = rejected 24 c.labels; operators = operators; labels = labels })
-          too_many_labels h = refused 23 c.labels (counted ∙ rw (le-ltb (length operators / 4) c.operators operators-fit, lt-ltb (length labels / 3) c.labels h))
+          pub too_many_labels : length labels / 3 < c.labels → Refuses (TooManyLabels c.labels)
+          too_many_labels h = refused (TooManyLabels c.labels) (counted ∙ rw (le-ltb (length operators / 4) c.operators operators-fit, lt-ltb (length labels / 3) c.labels h))
 
           module _ (labels-fit : c.labels ≤ length labels / 3) where
             pub has_room : HasRoom text operators labels

@@ -4,13 +4,10 @@ ghost use Rattle.stack_assembly.specs.Promise.{Compiles};
 ghost use Rattle.compile.specs.Answers.{compiled_answer};
 ghost use Rattle.compile.specs.Private.{HasRoom};
 
-use crate::error::CompileError;
 use crate::pass::pass;
+use answers::{CompileError, LONGEST_TEXT};
 use records::{Counts, LabelRecord, OperatorRecord, Record};
 use utf8::text_of;
-
-/// How many bytes a text may have.
-pub const LONGEST_TEXT: usize = 65535;
 
 // The records of a short script, which wait until it is known to be accepted.
 const WAITING_OPERATORS: usize = 256;

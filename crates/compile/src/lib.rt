@@ -2,10 +2,9 @@
 #![tactic(auto)]
 
 mod compilation;
-mod error;
 mod pass;
 mod table;
 
-pub use compilation::{LONGEST_TEXT, compile};
-pub use error::CompileError;
+pub use answers::{CompileError, LONGEST_TEXT};
+pub use compilation::compile;
 pub use records::Counts;

@@ -1,6 +1,6 @@
 -- A host's call, by what it does to the machine that is taken out for it and put back.
 use Rattle.std.proofs.Common.{ℕ, ◌+◌, ◌-◌, ◌≡◌, refl, sym, ap, ◌∙◌, arith, true, false, Option, Some, None, Ok}
-use Rattle.stack_assembly.specs.Answer.{Answer, answer}
+use Rattle.stack_assembly.specs.Answer.{Answer, answer, refused as refused_answer, Forged}
 use Rattle.stack_assembly.specs.Script.{Script, Tables, script_in}
 use Rattle.stack_assembly.specs.Machine.{Store, Done}
 use Rattle.stack_assembly.specs.Run.{Call, run_call, cleared, performed}
@@ -8,9 +8,9 @@ use Rattle.stack_assembly.specs.Host as host
 use Rattle.stack_assembly.specs.Host.{forged}
 use Rattle.stack_assembly.specs.Promise.{Made, Called, called}
 use Rattle.stack_assembly.proofs.Live.{lent-back}
-use Rattle.store.specs.Effects.{effect_number}
+use Rattle.answers.specs.Effects.{standing_number}
 use Rattle.store.specs.Stacks.{stack_of}
-use Rattle.store.specs.declared.effect.Effect.{Effect}
+use Rattle.answers.specs.declared.effect.Effect.{Effect}
 use Rattle.machine.specs.declared.machine.Machine.{Machine}
 use Rattle.machine.specs.declared.steps.Ended.{Ended}
 use Rattle.machine.specs.declared.steps.Ended.TheVariants.{Raised, Refused}
@@ -29,7 +29,7 @@ holds t m = refl
 leaves : (t : Tables) (m : Machine) → host.lent_of t (machine_of m) ≡ left t m
 leaves t m = rw (holds t m) at (lent-back (left t m) m.operands.stack.within m.calls.stack.within)
 
-pub refused : (e : Eval) (c : Call) → forged (lent_of e) ≡ true → Called c (lent_of e) (answer 25 0 0) (lent_of e)
+pub refused : (e : Eval) (c : Call) → forged (lent_of e) ≡ true → Called c (lent_of e) (refused_answer Forged 0) (lent_of e)
 unfolding called
 refused e c f = rw f refl
 
@@ -52,13 +52,13 @@ lent_called {mid = mid} {m = m} {n} taken c back w did =
 -- the effect that stands is taken away
 pub clears : (e : Option Effect) (operator : ℕ) (s : Store)
     → record { answer = cleared_answer (Ok (with_operator e operator)); machine = record { store = s; effect = 0; effect_operator = 0 } }
-    ≡ cleared (effect_number e) (record { store = s; effect = effect_number e; effect_operator = operator })
+    ≡ cleared (standing_number e) (record { store = s; effect = standing_number e; effect_operator = operator })
 unfolding cleared
 clears None operator s = refl
 clears (Some x) operator s = rw (positive x) refl
 
 -- no effect stands where its number is 0
-none : (e : Option Effect) → effect_number e ≡ 0 → e ≡ None
+none : (e : Option Effect) → standing_number e ≡ 0 → e ≡ None
 none None h = refl
 none (Some x) h = absurd (omega (arith, positive x))
 

@@ -1,32 +1,27 @@
 -- What the calls answer, by case.
 use Rattle.std.specs.Prelude.{ℕ, Option, Some, None, Result, Ok, Err}
-use Rattle.stack_assembly.specs.Answer.{Answer, answer, number}
+use Rattle.stack_assembly.specs.Answer.{Answer, answer, refused, number}
 use Rattle.stack_assembly.specs.Run as definition
-use Rattle.store.specs.Effects.{effect_of, refusal_number, refusal_value}
-use Rattle.store.specs.declared.effect.Effect.{Effect}
-use Rattle.store.specs.declared.refusal.Refusal.{Refusal}
+use Rattle.answers.specs.declared.effect.Effect.{Effect}
+use Rattle.answers.specs.declared.refusal.Refusal.{Refusal}
 use Rattle.eval.specs.declared.call.Call.{Call}
 use Rattle.eval.specs.declared.call.Call.TheVariants.{Step, Run, Clear, Push, Pop, Read, Write}
-
--- a refusal, after so many steps
-abbrev pub refused_answer : Refusal → (steps : ℕ) → Answer
-refused_answer r steps = answer (refusal_number r) (refusal_value r) steps
 
 -- push and write: 0 and 0
 abbrev pub done_answer : Result (Unit {0}) Refusal → Answer
 done_answer (Ok _) = answer 0 0 0
-done_answer (Err r) = refused_answer r 0
+done_answer (Err r) = refused r 0
 
 -- pop, read and an entry of the call stack: 0 and the word
 abbrev pub word_answer : Result ℕ Refusal → Answer
 word_answer (Ok word) = answer 0 word 0
-word_answer (Err r) = refused_answer r 0
+word_answer (Err r) = refused r 0
 
 -- clear: the effect's number and operator, or 0 and 0
 abbrev pub cleared_answer : Result (Option (Effect × ℕ)) Refusal → Answer
 cleared_answer (Ok None) = answer 0 0 0
-cleared_answer (Ok (Some e)) = answer (number (effect_of e.0)) e.1 0
-cleared_answer (Err r) = refused_answer r 0
+cleared_answer (Ok (Some e)) = answer (number e.0) e.1 0
+cleared_answer (Err r) = refused r 0
 
 abbrev pub call_of : Call → definition.Call
 call_of Step = definition.step_call

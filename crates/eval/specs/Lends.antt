@@ -4,7 +4,7 @@ use Rattle.stack_assembly.specs.Answer as answer
 use Rattle.stack_assembly.specs.Script.{Tables}
 use Rattle.stack_assembly.specs.Host as host
 use Rattle.stack_assembly.specs.Host.{forged}
-use Rattle.store.specs.Effects.{effect_number}
+use Rattle.answers.specs.Effects.{standing_number}
 use Rattle.machine.specs.declared.machine.Machine.{Machine}
 use Rattle.eval.specs.declared.state.State.{State}
 use Rattle.eval.specs.declared.answer.Answer.{Answer}
@@ -60,7 +60,7 @@ left t m =
         next = m.next;
         operand_depth = m.operands.stack.depth;
         call_depth = m.calls.stack.depth;
-        effect = effect_number m.effect;
+        effect = standing_number m.effect;
         effect_operator = m.effect_operator;
       };
       tables = t;

@@ -2,11 +2,11 @@
 ghost use Rattle.std.specs.Prelude.{◌≡◌};
 ghost use Rattle.machine.specs.Steps.{ended_answer};
 ghost use Rattle.eval.specs.Lends.{answer_of};
-ghost use Rattle.eval.specs.Answers.{refused_answer};
+ghost use Rattle.stack_assembly.specs.Answer.{refused};
 
+use answers::{Effect, Refusal};
 use machine::{Ended, Ran};
 use std::fmt;
-use store::{Effect, Refusal};
 
 // Three numbers, since the C interface and the programs have them so; the calls themselves answer results.
 /// The number of an effect, from 1 to 11, or of a refusal, from 21 to 31, or 0; the value that goes with it; and the steps that count.
@@ -49,7 +49,7 @@ impl Answer {
     // A refusal, after so many steps.
     #[inline(always)]
     fn refused(refusal: Refusal, steps: u32) -> Answer
-        ensures { answer_of result ≡ refused_answer refusal steps }
+        ensures { answer_of result ≡ refused refusal steps }
     {
         Answer {
             number: refusal.number(),

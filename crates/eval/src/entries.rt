@@ -3,7 +3,7 @@ ghost use Rattle.std.specs.Prelude.{◌≡◌};
 ghost use Rattle.stack_assembly.specs.Beside.{call_stack_at};
 ghost use Rattle.eval.specs.Answers.{word_answer};
 
-use store::Refusal;
+use answers::Refusal;
 
 // The depth and the buffer are apart, as the C interface has them, without an evaluation.
 /// The index of the operator that made the call at a place, which is the entry there less 1; place 0 is the top.

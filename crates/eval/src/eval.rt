@@ -1,12 +1,13 @@
 // What is lent to a host's calls, and the calls that make no step.
-#![tactic(auto, using(crate::proofs::Calls::refused), unfolding(stack_assembly::specs::Host::forged))]
+#![tactic(auto, using(crate::proofs::Calls::refused), unfolding(stack_assembly::specs::Host::forged, answers::specs::Effects::number))]
 
 use crate::state::State;
+use answers::{Effect, Refusal, number_of};
 use machine::Machine;
 use records::{Counts, LabelRecord, OperatorRecord, Record};
 use script::Script;
 use std::mem;
-use store::{CallStack, Effect, Memory, OperandStack, Refusal, Stack, number_of};
+use store::{CallStack, Memory, OperandStack, Stack};
 
 // The greatest number of an effect. `Effect::from_number` would not do for the test of a state: it gives none for 0 too, which is no forgery.
 const LAST_EFFECT: u32 = 11;
@@ -26,7 +27,7 @@ pub struct Eval<'a> {
 
 impl<'a> Eval<'a> {
     ghost use Rattle.std.specs.Prelude.{◌≡◌, ◌≤◌, ◌*◌, true, take, length, MatchResult};
-    ghost use Rattle.store.specs.declared.refusal.Refusal.TheVariants.{Forged};
+    ghost use Rattle.answers.specs.declared.refusal.Refusal.TheVariants.{Forged};
     ghost use Rattle.stack_assembly.specs.Host.{forged};
     ghost use Rattle.stack_assembly.specs.Run.{push_call, pop_call, read_call, write_call, clear_call};
     ghost use Rattle.stack_assembly.specs.Script.{script_in};

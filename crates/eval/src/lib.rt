@@ -9,9 +9,9 @@ mod runs;
 mod state;
 
 pub use answer::Answer;
+pub use answers::{Effect, Refusal};
 pub use call::Call;
 pub use entries::call_stack;
 pub use eval::Eval;
 pub use machine::{Ended, Ran};
 pub use state::State;
-pub use store::{Effect, Refusal};

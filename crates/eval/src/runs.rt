@@ -74,7 +74,7 @@ impl Eval<'_> {
             unreachable!();
         };
         let mut script: Memo<'_, REMEMBERED> = Memo::new(self.counted());
-        let ran = machine.run_on(&mut script, budget);
+        let ran = machine.run(&mut script, budget);
         self.put_back(machine);
         ran
     }

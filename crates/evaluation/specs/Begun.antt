@@ -1,10 +1,9 @@
 -- The start of an evaluation, by the definition.
 use Rattle.std.specs.Prelude.{ℕ, List, Result, MatchResult, ◌≡◌}
-use Rattle.stack_assembly.specs.Script.{compile}
+use Rattle.stack_assembly.specs.Script.{compile, rejected}
 use Rattle.stack_assembly.specs.Evaluator as evaluator
 use Rattle.stack_assembly.specs.Evaluator.{begun}
-use Rattle.compile.specs.Answers.{refusal}
-use Rattle.compile.specs.declared.error.CompileError.{CompileError}
+use Rattle.stack_assembly.specs.Script.{CompileError}
 use Rattle.eval.specs.declared.eval.Eval.{Eval}
 use Rattle.eval.specs.Lends.{lent_of}
 use Rattle.evaluation.specs.declared.buffers.Buffers.{Buffers}
@@ -25,4 +24,4 @@ pub record Accepts (text : List ℕ) (b : evaluator.Buffers) (e : Eval) : Type 0
   pub begun : lent_of e ≡ begun text b
 
 abbrev pub Begins : (text : List ℕ) → evaluator.Buffers → Result Eval CompileError → Type 0
-Begins text b r = MatchResult r (Accepts text b) (λ e. refusal e ≡ (compile text b.operators b.labels).answer)
+Begins text b r = MatchResult r (Accepts text b) (λ e. rejected e ≡ (compile text b.operators b.labels).answer)

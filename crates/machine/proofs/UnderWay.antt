@@ -2,12 +2,12 @@
 use Rattle.std.proofs.Common.{◌≡◌, ℕ, suc, ◌+◌, ◌-◌, ◌<◌, ◌≤◌, refl, sym, ap, ◌∙◌, arith, Ok, Err}
 use Rattle.stack_assembly.specs.Script.{Script}
 use Rattle.stack_assembly.specs.Machine as definition
-use Rattle.stack_assembly.specs.Machine.{Done, done}
+use Rattle.stack_assembly.specs.Machine.{Done, done, refused_with}
 use Rattle.stack_assembly.specs.Step.{step}
 use Rattle.stack_assembly.specs.Run.{run, followed}
-use Rattle.store.specs.Effects.{refusal_number}
-use Rattle.store.specs.declared.refusal.Refusal.{Refusal}
-use Rattle.store.specs.declared.refusal.Refusal.TheVariants.{Forged, BudgetUsed}
+use Rattle.answers.specs.Refusals.{refusal_number}
+use Rattle.answers.specs.declared.refusal.Refusal.{Refusal}
+use Rattle.answers.specs.declared.refusal.Refusal.TheVariants.{Forged, BudgetUsed}
 use Rattle.machine.specs.Outcomes.{SameBuffers}
 use Rattle.machine.specs.Steps.{machine_of, ended_answer, counted_by, Stepped}
 use Rattle.machine.specs.Runs.{Runs, counted, UnderWay}
@@ -27,12 +27,12 @@ module _ (s : Script) (budget steps : ℕ) (m : definition.Machine) where
   abbrev rest : Done
   rest = counted steps (run s (budget - steps) m)
 
-  used : steps ≡ budget → rest ≡ done 29 m.store.next budget m
+  used : steps ≡ budget → rest ≡ refused_with (BudgetUsed m.store.next) budget m
   unfolding run
   used e =
       let z : budget - steps ≡ 0 = omega arith in
       let w : steps + 0 ≡ budget = omega arith in
-      rw z (ap (λ (k : ℕ). done 29 m.store.next k m) w)
+      rw z (ap (λ (k : ℕ). refused_with (BudgetUsed m.store.next) k m) w)
 
   module _ (more : steps < budget) (m' : definition.Machine) where
     fuel : budget - steps ≡ suc (budget - (steps + 1))

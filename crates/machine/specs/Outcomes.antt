@@ -1,11 +1,10 @@
 -- The definition's store and outcome, as the code holds them.
 use Rattle.std.specs.Prelude.{ℕ, ◌≡◌, Result, Ok, Err, Option, Some, None}
 use Rattle.stack_assembly.specs.Machine.{Store, Outcome, continues, raises, refuses}
-use Rattle.store.specs.declared.effect.Effect.{Effect}
-use Rattle.store.specs.declared.refusal.Stop.{Stop}
-use Rattle.store.specs.declared.refusal.Stop.TheVariants.{Raised, Refused}
+use Rattle.answers.specs.declared.effect.Effect.{Effect}
+use Rattle.store.specs.declared.stop.Stop.{Stop}
+use Rattle.store.specs.declared.stop.Stop.TheVariants.{Raised, Refused}
 use Rattle.store.specs.Stacks.{stack_of, SameBuffer, SameWords}
-use Rattle.store.specs.Effects.{effect_of, refusal_number, refusal_value}
 use Rattle.machine.specs.declared.machine.Machine.{Machine}
 
 abbrev pub store_of : Machine → Store
@@ -14,8 +13,8 @@ store_of m = record { next = m.next; operands = stack_of m.operands.stack; calls
 -- how an operator ended, and the store that it left
 abbrev pub outcome_of : Result (Unit {0}) Stop → Store → Outcome
 outcome_of (Ok _) m = continues m
-outcome_of (Err (Raised e)) m = raises (effect_of e) m
-outcome_of (Err (Refused r)) m = refuses (refusal_number r) (refusal_value r)
+outcome_of (Err (Raised e)) m = raises e m
+outcome_of (Err (Refused r)) m = refuses r
 
 -- the same lent buffers
 pub record SameBuffers (a b : Machine) : Type 0 where

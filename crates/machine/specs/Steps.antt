@@ -1,22 +1,22 @@
 -- A step, by the definition.
 use Rattle.std.specs.Prelude.{ℕ, ◌≡◌, Result, Ok, Err}
-use Rattle.stack_assembly.specs.Answer.{Answer, answer, number}
+use Rattle.stack_assembly.specs.Answer.{Answer, answer, refused, number}
 use Rattle.stack_assembly.specs.Script.{Script}
 use Rattle.stack_assembly.specs.Machine as definition
 use Rattle.stack_assembly.specs.Step.{step}
-use Rattle.store.specs.Effects.{effect_of, effect_number, refusal_number, refusal_value}
+use Rattle.answers.specs.Effects.{standing_number}
 use Rattle.machine.specs.declared.machine.Machine.{Machine}
 use Rattle.machine.specs.declared.steps.Ended.{Ended}
 use Rattle.machine.specs.declared.steps.Ended.TheVariants.{Raised, Refused}
 use Rattle.machine.specs.Outcomes.{store_of, SameBuffers}
 
 abbrev pub machine_of : Machine → definition.Machine
-machine_of m = record { store = store_of m; effect = effect_number m.effect; effect_operator = m.effect_operator }
+machine_of m = record { store = store_of m; effect = standing_number m.effect; effect_operator = m.effect_operator }
 
 -- what ended a step or a run, as it is answered after so many steps; the value of an effect is its operator
 abbrev pub ended_answer : Ended → (steps : ℕ) → Answer
-ended_answer (Raised e operator) steps = answer (number (effect_of e)) operator steps
-ended_answer (Refused r) steps = answer (refusal_number r) (refusal_value r) steps
+ended_answer (Raised e operator) steps = answer (number e) operator steps
+ended_answer (Refused r) steps = refused r steps
 
 -- a refused step does not count
 abbrev pub counted_by : Ended → ℕ

@@ -1,14 +1,15 @@
 // What evaluating an operator does.
 ghost use Rattle.std.specs.Prelude.{ℕ, ◌≡◌, ◌<◌, ◌^◌, Err};
-ghost use Rattle.store.specs.declared.refusal.Stop.TheVariants.{Raised};
-ghost use Rattle.store.specs.declared.effect.Effect.TheVariants as effect;
+ghost use Rattle.store.specs.declared.stop.Stop.TheVariants.{Raised};
+ghost use Rattle.answers.specs.declared.effect.Effect.TheVariants as effect;
 ghost use Rattle.stack_assembly.specs.Operators.{unary, binary};
 ghost use Rattle.stack_assembly.specs.Step.{fetched, outcome};
 ghost use Rattle.machine.specs.Outcomes.{store_of, outcome_of, Rest, Comes};
 
 use crate::machine::Machine;
+use answers::{Effect, Refusal};
 use script::Operators;
-use store::{Effect, Refusal, Stop};
+use store::Stop;
 use words::{Fetched, Word};
 
 // Out of line: were it a constant, its parts would be set before the jump to any word.

@@ -1,6 +1,7 @@
 // A machine: what a script works on, in lent buffers.
 
-use store::{CallStack, Effect, Memory, OperandStack};
+use answers::Effect;
+use store::{CallStack, Memory, OperandStack};
 
 /// The next operator, the effect that stands with its operator, and what operators work on.
 #[derive(Drop)]

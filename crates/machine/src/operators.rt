@@ -4,7 +4,8 @@ ghost use Rattle.stack_assembly.specs.Operators.{evaluated};
 ghost use Rattle.machine.specs.Outcomes.{store_of, Comes};
 
 use crate::machine::Machine;
-use store::{Effect, Stop};
+use answers::Effect;
+use store::Stop;
 use word::divide;
 
 impl Machine<'_> {

@@ -6,8 +6,8 @@ ghost use Rattle.machine.specs.Runs.{Runs, RunsAhead, IsEnded};
 
 use crate::machine::Machine;
 use crate::steps::Ended;
+use answers::Refusal;
 use script::Operators;
-use store::Refusal;
 
 /// How a run ended, and the steps that it made.
 #[derive(Clone, Copy, PartialEq, Eq, Debug)]
@@ -50,7 +50,7 @@ impl Machine<'_> {
     {
         for step in 0..budget {
             let at = self.next;
-            if let Err(end) = self.advance(script) {
+            if let Err(end) = self.make_step(script) {
                 return Ahead::Ended(ended(step, end));
             }
             if AHEAD && self.next <= at {
@@ -65,7 +65,7 @@ impl Machine<'_> {
 
     /// Steps until one ends the run, or the budget is used.
     #[inline(always)]
-    pub fn run_on<S: Operators>(&mut self, script: &mut S, budget: u32) -> Ran
+    pub fn run<S: Operators>(&mut self, script: &mut S, budget: u32) -> Ran
         requires { self.old.effect ≡ None }
         ensures ran { Runs (S.told script.old) budget result self.old self.new }
         ensures script { S.told script.new ≡ S.told script.old }

@@ -1,5 +1,5 @@
 // Steps.
-#![tactic(auto, using(crate::proofs::Numbers::standing), unfolding(stack_assembly::specs::Step::step, stack_assembly::specs::Step::step_under, stack_assembly::specs::Step::settled, stack_assembly::specs::Answer::number))]
+#![tactic(auto, using(crate::proofs::Numbers::standing), unfolding(stack_assembly::specs::Step::step, stack_assembly::specs::Step::step_under, stack_assembly::specs::Step::settled, answers::specs::Effects::number))]
 
 ghost use Rattle.std.specs.Prelude.{◌≡◌, IfOk, Err, Some, None};
 ghost use Rattle.stack_assembly.specs.Script as definition;
@@ -7,8 +7,9 @@ ghost use Rattle.machine.specs.declared.steps.Ended.TheVariants.{Raised};
 ghost use Rattle.machine.specs.Steps.{counted_by, Stepped};
 
 use crate::machine::Machine;
+use answers::{Effect, Refusal};
 use script::Operators;
-use store::{Effect, Refusal, Stop};
+use store::Stop;
 
 /// What ended a step or a run.
 #[derive(Clone, Copy, PartialEq, Eq, Debug)]
@@ -57,7 +58,7 @@ impl Machine<'_> {
 
     // A step where none stands. Next does not advance in one that is refused.
     #[inline(always)]
-    pub(crate) fn advance<S: Operators>(&mut self, script: &mut S) -> Result<(), Ended>
+    pub(crate) fn make_step<S: Operators>(&mut self, script: &mut S) -> Result<(), Ended>
         requires { self.old.effect ≡ None }
         ensures stepped { Stepped (S.told script.old) result self.old self.new }
         ensures script { S.told script.new ≡ S.told script.old }
@@ -88,6 +89,6 @@ impl Machine<'_> {
         if let Some(effect) = self.effect {
             return Err(self.stand(effect));
         }
-        self.advance(script)
+        self.make_step(script)
     }
 }

@@ -6,7 +6,7 @@ use Rattle.stack_assembly.specs.Answer.{is_limit}
 use Rattle.stack_assembly.specs.Script.{CompileAnswer, Tables, script_in}
 use Rattle.stack_assembly.specs.Machine.{Machine, Done}
 use Rattle.stack_assembly.specs.Run.{Call, performed}
-use Rattle.stack_assembly.specs.Host.{Lent, live, machine_of, lent_of, forged, fresh}
+use Rattle.stack_assembly.specs.Host.{Lent, top_first, machine_of, lent_of, forged, fresh}
 use Rattle.stack_assembly.specs.Promise.{defined, called, called_all}
 use Rattle.stack_assembly.specs.Evaluator.{Buffers, compiled, begun, SameState}
 use Rattle.stack_assembly.specs.Sizes.{NoLimit}
@@ -94,7 +94,7 @@ module _ (text : List ℕ) (b₁ b₂ : Buffers) (same : compiled text b₁ ≡ 
 
   pub begun_alike : length b₁.memory ≡ length b₂.memory → length b₁.operand_stack ≤ length b₂.operand_stack → length b₁.call_stack ≤ length b₂.call_stack
       → Alike (more_words b₁.operand_stack b₂.operand_stack) (more_words b₁.call_stack b₂.call_stack) (begun text b₁) (begun text b₂)
-  unfolding begun fresh machine_of live
+  unfolding begun fresh machine_of top_first
   begun_alike m o c =
       let os = spread_more b₁.operand_stack b₂.operand_stack o in
       let cs = spread_more b₁.call_stack b₂.call_stack c in

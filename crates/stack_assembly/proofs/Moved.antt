@@ -1,5 +1,5 @@
 -- What an operator makes of both stacks: words come and go one at a time, so that a buffer stays as long as it was, zeros above a top stay, and words
--- from the greatest depth on stay. And a refusal's number.
+-- from the greatest depth on stay.
 use Rattle.std.proofs.Common.{ℕ, zero, suc, max, ◌+◌, ◌-◌, ◌≤◌, ◌<◌, true, List, [], ◌∷◌, ◌≡◌, refl, sym, ap, ◌∙◌, arith, ⊎_elim, ltb, ltb-true, length, drop, get_or, length-drop}
 use Rattle.std.proofs.lemmas.List.{drop-drop, get_or-drop, length-set}
 use Rattle.std.proofs.lemmas.Grind.{get_or_after_one}
@@ -98,11 +98,11 @@ pub record OnOperands (left : Stack) (operands : Stack) (memory : List ℕ) (n :
   pub calls : n.calls ≡ left
   pub words : length memory ≡ length n.memory
 
--- or a refusal's number
+-- or a refusal
 abbrev pub MovesOperands : (calls : Stack) → Store → Outcome → Type 0
 MovesOperands c m (continues n) = OnOperands c m.operands m.memory n
 MovesOperands c m (raises e n) = OnOperands c m.operands m.memory n
-MovesOperands c m (refuses number value) = 21 ≤ number
+MovesOperands c m (refuses r) = Unit {0}
 
 none : (m : Store) → OnOperands m.calls m.operands m.memory m
 none m = record { moved = stays m.operands; calls = refl; words = refl }
@@ -114,7 +114,7 @@ gone m rest = with_operands m (released rest m.operands)
 after_gone : (c : Stack) (m : Store) (w : ℕ) (rest : List ℕ) → m.operands.live ≡ w ∷ rest → (x : Outcome) → MovesOperands c (gone m rest) x → MovesOperands c m x
 after_gone c m w rest e (continues n) f = record { moved = releases m.operands n.operands rest (ap length e) f.moved; calls = f.calls; words = f.words }
 after_gone c m w rest e (raises x n) f = record { moved = releases m.operands n.operands rest (ap length e) f.moved; calls = f.calls; words = f.words }
-after_gone c m w rest e (refuses n v) f = f
+after_gone c m w rest e (refuses r) f = tt
 
 popped : (m : Store) (k : ℕ → Store → Outcome) → ((w : ℕ) (n : Store) → length m.operands.above < length n.operands.above → MovesOperands n.calls n (k w n))
     → MovesOperands m.calls m (pop_from m.operands.live m k)
@@ -202,7 +202,7 @@ unfolding entered
 entered_moves m k h =
     cond_by (MovesBoth m) (has_room m.calls)
     (λ t. (with_word m.next m.calls, pushes_on m.calls m.calls m.next (ltb-true 0 (length m.calls.above) t) (stays m.calls), h _))
-    (λ _. (m.calls, stays m.calls, omega arith))
+    (λ _. (m.calls, stays m.calls, tt))
 
 returned_moves : (m : Store) → MovesBoth m (returned m.calls.live m)
 unfolding returned
@@ -249,8 +249,8 @@ pushed_moves w m t = record { operands = (pushed_on w m t).moved; calls = stays 
 pub outcome_moves : (f : Fetched) (m : Store) → MovesBoth m (outcome f m)
 unfolding outcome pushed
 outcome_moves past m = neither m
-outcome_moves (damaged place) m = (m.calls, stays m.calls, omega arith)
-outcome_moves (pushes w) m = both m _ (cond_by (MovesOperands m.calls m) (has_room m.operands) (pushed_on w m) (λ _. omega arith))
+outcome_moves (damaged place) m = (m.calls, stays m.calls, tt)
+outcome_moves (pushes w) m = both m _ (cond_by (MovesOperands m.calls m) (has_room m.operands) (pushed_on w m) (λ _. tt))
 outcome_moves unresolved m = neither m
 outcome_moves (word w) m = evaluated_moves w m
 outcome_moves unknown m = neither m

@@ -2,7 +2,7 @@
 -- operator comes to, a step, a run and a call.
 use Rattle.std.proofs.Common.{ℕ, zero, suc, ◌+◌, ◌≤◌, ◌<◌, true, false, cond, List, [], ◌∷◌, ◌++◌, ◌≡◌, refl, sym, ap, ◌∙◌, arith, ltb, ltb-true, length, replicate}
 use Rattle.word.specs.Word.{Division, by_zero, overflow, parts, divide}
-use Rattle.stack_assembly.specs.Answer.{is_limit}
+use Rattle.stack_assembly.specs.Answer.{refusal_number, is_limit}
 use Rattle.stack_assembly.specs.Script.{Script}
 use Rattle.stack_assembly.specs.Words.{Word, div, count_ones, leading_zeros, trailing_zeros, copy, drop, jump, jump_if, call, call_either, return, assert, yield, read, write}
 use Rattle.stack_assembly.specs.Machine.{Stack, released, Store, Machine, Outcome, continues, raises, refuses, Done, with_operands, with_calls, with_store, pop_from}
@@ -23,7 +23,7 @@ stack more s = record { live = s.live; above = spread more s.above }
 abbrev Free : Outcome → Type 0
 Free (continues m) = Unit {0}
 Free (raises e m) = Unit {0}
-Free (refuses n v) = is_limit n ≡ false
+Free (refuses r) = is_limit (refusal_number r) ≡ false
 
 there_is_room : {A : Type 0} (n : ℕ) (x full : A) → cond (ltb 0 (suc n)) x full ≡ x
 there_is_room n x full = grind arith
@@ -32,7 +32,7 @@ settled-free : (m : Machine) (x : Outcome) → FreeDone (settled m x) → Free x
 unfolding settled
 settled-free m (continues s) h = tt
 settled-free m (raises e s) h = tt
-settled-free m (refuses n v) h = h
+settled-free m (refuses r) h = h
 
 followed-free : (d : Done) (n : ℕ) (rest : Machine → Done) → d.answer.number ≡ n → FreeDone (followed d n rest) → FreeDone d
 unfolding followed is_limit
@@ -46,7 +46,7 @@ module _ (o c : List ℕ) where
   abbrev widened : Outcome → Outcome
   widened (continues m) = continues (wider m)
   widened (raises e m) = raises e (wider m)
-  widened (refuses n v) = refuses n v
+  widened (refuses r) = refuses r
 
   -- with more room, only where there is no limit
   abbrev pub IfMore : Type 0 → Type 0
@@ -157,7 +157,7 @@ module _ (o c : List ℕ) where
   unfolding settled
   settled_wider m (continues s) = refl
   settled_wider m (raises e s) = refl
-  settled_wider m (refuses n v) = refl
+  settled_wider m (refuses r) = refl
 
   cleared_wider : (e : ℕ) (m : Machine) → cleared e (wide m) ≡ wide_done (cleared e m)
   unfolding cleared

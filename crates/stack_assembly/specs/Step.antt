@@ -5,10 +5,10 @@ use Rattle.names.specs.Names.{same_bytes}
 pub use Rattle.words.specs.declared.fetched.Fetched.{Fetched}
 pub use Rattle.words.specs.declared.fetched.Fetched.TheVariants.{Past as past, Damaged as damaged, Integer as pushes, Unresolved as unresolved, Word as word, Unknown as unknown}
 use Rattle.word.specs.Word.{wrap}
-use Rattle.stack_assembly.specs.Answer.{number, InvalidReference, OutOfOperators, UnknownIdentifier}
+use Rattle.stack_assembly.specs.Answer.{number, Damaged, OperandStackFull, InvalidReference, OutOfOperators, UnknownIdentifier}
 use Rattle.stack_assembly.specs.Script.{Operator, Label, Script, part, damaged_operator, damaged_label}
 use Rattle.stack_assembly.specs.Words.{Word, words, lookup}
-use Rattle.stack_assembly.specs.Machine.{depth, has_room, Store, Machine, Outcome, continues, raises, refuses, Done, done, with_next, with_store, with_effect, push}
+use Rattle.stack_assembly.specs.Machine.{depth, has_room, Store, Machine, Outcome, continues, raises, refuses, Done, done, refused_with, with_next, with_store, with_effect, push}
 use Rattle.stack_assembly.specs.Operators.{evaluated}
 
 -- A reference: labels are examined in order, `place` being the first's, up to the first whose name has the same bytes.
@@ -39,12 +39,12 @@ fetched s next = fetched_from s next (drop next s.operators)
 
 -- 27, with the depth: a word is to be pushed and the operand stack is full.
 unfoldable pub pushed : ℕ → Store → Outcome
-pushed w m = cond (has_room m.operands) (continues (push w m)) (refuses 27 (depth m.operands))
+pushed w m = cond (has_room m.operands) (continues (push w m)) (refuses (OperandStackFull (depth m.operands)))
 
 -- What evaluating the operator comes to: effect 8 past the last one, 6 without a label, 10 for an unknown word; 26 for a damaged record.
 unfoldable pub outcome : Fetched → Store → Outcome
 outcome past m = raises OutOfOperators m
-outcome (damaged place) m = refuses 26 place
+outcome (damaged place) m = refuses (Damaged place)
 outcome (pushes w) m = pushed w m
 outcome unresolved m = raises InvalidReference m
 outcome (word w) m = evaluated w m
@@ -58,7 +58,7 @@ advanced m = with_next m (wrap (m.next + 1))
 unfoldable pub settled : Machine → Outcome → Done
 settled m (continues s) = done 0 0 1 (with_store m s)
 settled m (raises e s) = done (number e) m.store.next 1 (with_effect (with_store m s) (number e) m.store.next)
-settled m (refuses n v) = done n v 0 m
+settled m (refuses r) = refused_with r 0 m
 
 -- A step advances next in any case; where an effect stands it answers that and does no more, else it evaluates the operator.
 unfoldable pub step_under : (effect : ℕ) → Script → Machine → Done

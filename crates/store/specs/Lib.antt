@@ -1,3 +1,3 @@
 -- What is promised of the stacks, the memory and the effects.
 pub mod Stacks
-pub mod Effects
+pub mod Stops

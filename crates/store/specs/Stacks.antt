@@ -6,7 +6,7 @@ use Rattle.stack_assembly.specs.Operators.{without}
 use Rattle.stack_assembly.specs.Host.{stack_in}
 use Rattle.store.specs.declared.stack.Stack.{Stack}
 use Rattle.store.specs.declared.memory.Memory.{Memory}
-use Rattle.store.specs.declared.refusal.Refusal.{Refusal}
+use Rattle.answers.specs.declared.refusal.Refusal.{Refusal}
 
 unfoldable pub stack_of : Stack → definition.Stack
 stack_of s = stack_in s.depth s.words.now

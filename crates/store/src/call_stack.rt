@@ -1,7 +1,7 @@
 // The call stack.
 
-use crate::refusal::Refusal;
 use crate::stack::Stack;
+use answers::Refusal;
 
 /// The operators that calls return to.
 #[derive(Drop)]
@@ -12,7 +12,7 @@ pub struct CallStack<'a> {
 impl<'a> CallStack<'a> {
     ghost use Rattle.std.specs.Prelude.{◌≡◌};
     ghost use Rattle.store.specs.Stacks.{stack_of, Popped, pushed, SameBuffer};
-    ghost use Rattle.store.specs.declared.refusal.Refusal.TheVariants.{CallStackFull};
+    ghost use Rattle.answers.specs.declared.refusal.Refusal.TheVariants.{CallStackFull};
 
     /// Pops the operator to return to; `None` where there is no call to return from.
     #[inline(always)]

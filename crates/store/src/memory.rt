@@ -1,7 +1,7 @@
 // A linear memory, addressable per word.
 
-use crate::effect::Effect;
-use crate::refusal::Stop;
+use crate::stop::Stop;
+use answers::Effect;
 
 /// An address at or above the memory's length.
 #[derive(Clone, Copy, PartialEq, Eq, Debug)]
@@ -9,8 +9,8 @@ pub struct InvalidAddress;
 
 impl From<InvalidAddress> for Stop {
     ghost use Rattle.std.specs.Prelude.{◌≡◌};
-    ghost use Rattle.store.specs.declared.refusal.Stop.TheVariants.{Raised};
-    ghost use Rattle.store.specs.declared.effect.Effect.TheVariants as effect;
+    ghost use Rattle.store.specs.declared.stop.Stop.TheVariants.{Raised};
+    ghost use Rattle.answers.specs.declared.effect.Effect.TheVariants as effect;
 
     ghost from_gives = { λ _ s. s ≡ Raised effect.InvalidAddress };
 

@@ -1,8 +1,8 @@
 // The operand stack.
 
-use crate::effect::Effect;
-use crate::refusal::{Refusal, Stop};
 use crate::stack::Stack;
+use crate::stop::Stop;
+use answers::{Effect, Refusal};
 
 /// A pop from nothing.
 #[derive(Clone, Copy, PartialEq, Eq, Debug)]
@@ -10,8 +10,8 @@ pub struct OperandStackUnderflow;
 
 impl From<OperandStackUnderflow> for Stop {
     ghost use Rattle.std.specs.Prelude.{◌≡◌};
-    ghost use Rattle.store.specs.declared.refusal.Stop.TheVariants.{Raised};
-    ghost use Rattle.store.specs.declared.effect.Effect.TheVariants as effect;
+    ghost use Rattle.store.specs.declared.stop.Stop.TheVariants.{Raised};
+    ghost use Rattle.answers.specs.declared.effect.Effect.TheVariants as effect;
 
     ghost from_gives = { λ _ s. s ≡ Raised effect.OperandStackUnderflow };
 
@@ -31,7 +31,7 @@ impl<'a> OperandStack<'a> {
     ghost use Rattle.std.specs.Prelude.{◌≡◌, true};
     ghost use Rattle.stack_assembly.specs.Machine.{has_room, with_word};
     ghost use Rattle.store.specs.Stacks.{stack_of, pushed, Popped, word_at, removed, found, SameBuffer};
-    ghost use Rattle.store.specs.declared.refusal.Refusal.TheVariants.{OperandStackFull};
+    ghost use Rattle.answers.specs.declared.refusal.Refusal.TheVariants.{OperandStackFull};
 
     /// Pops the top; an underflow where there is none.
     #[inline(always)]

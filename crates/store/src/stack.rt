@@ -47,7 +47,7 @@ impl<'a> Stack<'a> {
 
     /// Takes the top word away, and leaves a zero in its place; `None` where there is none.
     #[inline(always)]
-    #[tactic(auto, using(crate::proofs::Stacks::pops_live, crate::proofs::Stacks::pops_above), unfolding(crate::specs::Stacks::stack_of, stack_assembly::specs::Host::live))]
+    #[tactic(auto, using(crate::proofs::Stacks::pops_live, crate::proofs::Stacks::pops_above), unfolding(crate::specs::Stacks::stack_of, stack_assembly::specs::Host::top_first))]
     pub fn pop(&mut self) -> Option<u32>
         ensures same { SameBuffer self.old self.new }
         ensures value { Popped result (stack_of self.old) (stack_of self.new) }
@@ -63,7 +63,7 @@ impl<'a> Stack<'a> {
 
     /// Puts a word on top, where there is room.
     #[inline(always)]
-    #[tactic(auto, using(crate::proofs::Stacks::room_above, crate::proofs::Stacks::places), unfolding(crate::specs::Stacks::stack_of, stack_assembly::specs::Host::live))]
+    #[tactic(auto, using(crate::proofs::Stacks::room_above, crate::proofs::Stacks::places), unfolding(crate::specs::Stacks::stack_of, stack_assembly::specs::Host::top_first))]
     pub fn place(&mut self, word: u32)
         requires { has_room (stack_of self.old) ≡ true }
         ensures same { SameBuffer self.old self.new }
@@ -75,7 +75,7 @@ impl<'a> Stack<'a> {
 
     /// The word at an index from the top, 0 being the top.
     #[inline(always)]
-    #[tactic(auto, using(crate::proofs::Stacks::depth_in), unfolding(crate::specs::Stacks::stack_of, stack_assembly::specs::Host::live))]
+    #[tactic(auto, using(crate::proofs::Stacks::depth_in), unfolding(crate::specs::Stacks::stack_of, stack_assembly::specs::Host::top_first))]
     pub fn get(&self, index: usize) -> Option<u32>
         ensures { result ≡ word_at index (stack_of self.now) }
     {
@@ -88,7 +88,7 @@ impl<'a> Stack<'a> {
 
     /// Takes the word at an index from the top away; those above it move down, and leave a zero.
     #[inline(always)]
-    #[tactic(auto, using(crate::proofs::Stacks::depth_in, crate::proofs::Stacks::removes), unfolding(crate::specs::Stacks::stack_of, stack_assembly::specs::Host::live))]
+    #[tactic(auto, using(crate::proofs::Stacks::depth_in, crate::proofs::Stacks::removes), unfolding(crate::specs::Stacks::stack_of, stack_assembly::specs::Host::top_first))]
     pub fn remove(&mut self, index: usize) -> Option<u32>
         ensures same { SameBuffer self.old self.new }
         ensures value { removed index (stack_of self.old) ≡ (result, stack_of self.new) }

@@ -7,7 +7,7 @@ use Rattle.stack_assembly.specs.Answer.{Answer, answer}
 use Rattle.stack_assembly.specs.Script.{CompileAnswer, compile}
 use Rattle.stack_assembly.specs.Machine.{Done}
 use Rattle.stack_assembly.specs.Run.{run_call}
-use Rattle.stack_assembly.specs.Host.{live}
+use Rattle.stack_assembly.specs.Host.{top_first}
 use Rattle.stack_assembly.specs.Promise.{defined}
 use Rattle.stack_assembly.specs.Evaluator.{Buffers, begun}
 use Rattle.eval.specs.Lends.{answer_of}
@@ -46,7 +46,7 @@ printed_text p = text_of p.answer (reverse p.operands)
 -- ---- what the code prints
 
 abbrev pub printed_by : Tally → Printed
-printed_by t = record { answer = answer_of t.answer; operands = live (length t.operands.now) t.operands.now }
+printed_by t = record { answer = answer_of t.answer; operands = top_first (length t.operands.now) t.operands.now }
 
 -- It is what is defined, and so is its text.
 pub record Tallies (text : List ℕ) (b : Buffers) (t : Tally) : Type 0 where

@@ -1,7 +1,7 @@
 -- `compile` of src/script.rt meets its contract.
 use Rattle.std.proofs.Common.{rules, ◌≡◌, Err, arith}
 use Rattle.std.proofs.lemmas.Grind.{common_steps}
-use Rattle.compile.specs.declared.error.CompileError.TheVariants.{IllFormed}
+use Rattle.answers.specs.declared.compile_error.CompileError.TheVariants.{IllFormed}
 use Rattle.compile.proofs.Compiling.{too_long, ill-formed, written, too_many_operators, too_many_labels, has_room, copied}
 use Rattle.compile.proofs.compilation.compile.Goals as goal
 

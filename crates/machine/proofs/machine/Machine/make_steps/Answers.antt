@@ -19,7 +19,7 @@ loop-step-preserved g c =
     record {
       under_way = step_made c.loop-step.invariant.under_way (omega arith) (rw c.loop-step.invariant.script at c.in_default.ensures.stepped);
       effect = λ _. c.in_default.ensures.effect;
-      script = c.advance.ensures.script ∙ c.loop-step.invariant.script;
+      script = c.make_step.ensures.script ∙ c.loop-step.invariant.script;
     }
 
 pub returns-clause-ran : goal.returns-clause-ran

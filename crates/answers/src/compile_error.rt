@@ -1,7 +1,9 @@
 // The errors of `compile`.
-use crate::compilation::LONGEST_TEXT;
 use std::fmt;
 use utf8::IllFormed;
+
+/// How many bytes a text may have.
+pub const LONGEST_TEXT: usize = 65535;
 
 /// Why a text is refused. Each error answers with a number and a value of its own.
 #[derive(Clone, Copy, PartialEq, Eq, Debug)]
@@ -18,7 +20,7 @@ pub enum CompileError {
 
 impl From<IllFormed> for CompileError {
     ghost use Rattle.std.specs.Prelude.{◌≡◌};
-    ghost use Rattle.compile.specs.declared.error.CompileError.TheVariants.{IllFormed};
+    ghost use Rattle.answers.specs.declared.compile_error.CompileError.TheVariants.{IllFormed};
 
     ghost from_gives = { λ e c. c ≡ IllFormed e.offset };
 
@@ -31,12 +33,12 @@ impl From<IllFormed> for CompileError {
 
 impl CompileError {
     ghost use Rattle.std.specs.Prelude.{◌≡◌};
-    ghost use Rattle.compile.specs.Answers.{refusal};
+    ghost use Rattle.answers.specs.Refusals.{error_number, error_value};
 
     // An error has two numbers, so methods: one From could not say which.
     /// The number that answers it.
     pub fn number(self) -> u32
-        ensures { result ≡ (refusal self).number }
+        ensures { result ≡ error_number self }
     {
         match self {
             CompileError::TooLong => 22,
@@ -48,7 +50,7 @@ impl CompileError {
 
     /// The value that goes with the number.
     pub fn value(self) -> usize
-        ensures { result ≡ (refusal self).value }
+        ensures { result ≡ error_value self }
     {
         match self {
             CompileError::TooLong => LONGEST_TEXT,
@@ -61,7 +63,7 @@ impl CompileError {
 
 impl fmt::Display for CompileError {
     ghost use Rattle.std.specs.Prelude.{Some};
-    ghost use Rattle.compile.specs.Answers.{message};
+    ghost use Rattle.answers.specs.Refusals.{message};
 
     ghost output = { λ e. Some (message e) };
 

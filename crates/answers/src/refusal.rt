@@ -1,9 +1,6 @@
-// The refusals of calls, and what stops an evaluation.
+// The refusals of calls.
 ghost use Rattle.std.specs.Prelude.{◌≡◌};
-ghost use Rattle.store.specs.Effects.{refusal_number, refusal_value};
-
-use crate::effect::Effect;
-use word::DivisionError;
+ghost use Rattle.answers.specs.Refusals.{refusal_number, refusal_value};
 
 /// Why a call was not made, or why a run went no further.
 #[derive(Clone, Copy, PartialEq, Eq, Debug)]
@@ -56,52 +53,5 @@ impl Refusal {
             Refusal::OperandStackEmpty => 0,
             Refusal::Absent(place) => place,
         }
-    }
-}
-
-/// What stops an evaluation.
-#[derive(Clone, Copy, PartialEq, Eq, Debug)]
-pub enum Stop {
-    Raised(Effect),
-    Refused(Refusal),
-}
-
-impl From<Effect> for Stop {
-    ghost use Rattle.std.specs.Prelude.{◌≡◌};
-    ghost use Rattle.store.specs.declared.refusal.Stop.TheVariants.{Raised};
-
-    ghost from_gives = { λ e s. s ≡ Raised e };
-
-    #[inline(always)]
-    fn from(effect: Effect) -> Stop {
-        Stop::Raised(effect)
-    }
-}
-
-impl From<Refusal> for Stop {
-    ghost use Rattle.std.specs.Prelude.{◌≡◌};
-    ghost use Rattle.store.specs.declared.refusal.Stop.TheVariants.{Refused};
-
-    ghost from_gives = { λ r s. s ≡ Refused r };
-
-    #[inline(always)]
-    fn from(refusal: Refusal) -> Stop {
-        Stop::Refused(refusal)
-    }
-}
-
-impl From<DivisionError> for Stop {
-    ghost use Rattle.std.specs.Prelude.{◌≡◌};
-    ghost use Rattle.store.specs.declared.refusal.Stop.TheVariants.{Raised};
-    ghost use Rattle.store.specs.Effects.{division_effect};
-
-    ghost from_gives = { λ e s. s ≡ Raised (division_effect e) };
-
-    #[inline(always)]
-    fn from(error: DivisionError) -> Stop {
-        Stop::Raised(match error {
-            DivisionError::ByZero => Effect::DivisionByZero,
-            DivisionError::Overflow => Effect::IntegerOverflow,
-        })
     }
 }

@@ -1,9 +1,8 @@
 // The effects.
-#![tactic(auto, unfolding(stack_assembly::specs::Answer::number))]
+#![tactic(auto, unfolding(crate::specs::Effects::number))]
 
 ghost use Rattle.std.specs.Prelude.{◌≡◌, ◌≤◌, ◌<◌, None};
-ghost use Rattle.stack_assembly.specs.Answer.{number};
-ghost use Rattle.store.specs.Effects.{effect_of, effect_number};
+ghost use Rattle.answers.specs.Effects.{number, standing_number};
 
 /// An event that a script triggers, in the order of the effects' numbers.
 #[derive(Clone, Copy, PartialEq, Eq, Debug)]
@@ -26,7 +25,7 @@ impl Effect {
     /// Its number, from 1 to 11.
     #[inline(always)]
     pub fn number(self) -> u32
-        ensures { result ≡ number (effect_of self) }
+        ensures { result ≡ number self }
     {
         match self {
             Effect::AssertionFailed => 1,
@@ -47,7 +46,7 @@ impl Effect {
     /// The effect with a number; none has 0, or one above 11.
     #[inline(always)]
     pub fn from_number(number: u32) -> Option<Effect>
-        ensures found { number ≤ 11 → effect_number result ≡ number }
+        ensures found { number ≤ 11 → standing_number result ≡ number }
         ensures absent { 11 < number → result ≡ None }
     {
         match number {
@@ -71,7 +70,7 @@ impl Effect {
 /// The number of the effect that stands, 0 where none does.
 #[inline(always)]
 pub fn number_of(standing: Option<Effect>) -> u32
-    ensures { result ≡ effect_number standing }
+    ensures { result ≡ standing_number standing }
 {
     match standing {
         None => 0,
