@@ -17,6 +17,10 @@ number Return = 9
 number UnknownIdentifier = 10
 number Yield = 11
 
+-- No effect has a greater number.
+abbrev pub last_effect : ℕ
+last_effect = 11
+
 -- The number of the effect that stands, 0 where none does.
 abbrev pub standing_number : Option Effect → ℕ
 standing_number None = 0

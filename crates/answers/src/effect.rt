@@ -1,8 +1,8 @@
 // The effects.
 #![tactic(auto, unfolding(crate::specs::Effects::number))]
 
-ghost use Rattle.std.specs.Prelude.{◌≡◌, ◌≤◌, ◌<◌, None};
-ghost use Rattle.answers.specs.Effects.{number, standing_number};
+ghost use Rattle.std.specs.Prelude.{◌≡◌, ◌<◌, MatchResult};
+ghost use Rattle.answers.specs.Effects.{number, standing_number, last_effect};
 
 /// An event that a script triggers, in the order of the effects' numbers.
 #[derive(Clone, Copy, PartialEq, Eq, Debug)]
@@ -41,29 +41,6 @@ impl Effect {
             Effect::Yield => 11,
         }
     }
-
-    // The C interface has a standing effect by its number; here it becomes an enum. No TryFrom, since 0, no effect, is no error.
-    /// The effect with a number; none has 0, or one above 11.
-    #[inline(always)]
-    pub fn from_number(number: u32) -> Option<Effect>
-        ensures found { number ≤ 11 → standing_number result ≡ number }
-        ensures absent { 11 < number → result ≡ None }
-    {
-        match number {
-            1 => Some(Effect::AssertionFailed),
-            2 => Some(Effect::DivisionByZero),
-            3 => Some(Effect::IntegerOverflow),
-            4 => Some(Effect::InvalidAddress),
-            5 => Some(Effect::InvalidOperandStackIndex),
-            6 => Some(Effect::InvalidReference),
-            7 => Some(Effect::OperandStackUnderflow),
-            8 => Some(Effect::OutOfOperators),
-            9 => Some(Effect::Return),
-            10 => Some(Effect::UnknownIdentifier),
-            11 => Some(Effect::Yield),
-            _ => None,
-        }
-    }
 }
 
 // A function, as a crate may write no From for std's Option.
@@ -75,5 +52,32 @@ pub fn number_of(standing: Option<Effect>) -> u32
     match standing {
         None => 0,
         Some(effect) => effect.number(),
+    }
+}
+
+/// No effect has that number.
+#[derive(Clone, Copy, PartialEq, Eq, Debug)]
+pub struct NoEffect;
+
+// The C interface has it by its number; here it becomes an enum.
+/// The effect that stands, by its number; 0 says that none does.
+#[inline(always)]
+pub fn standing(number: u32) -> Result<Option<Effect>, NoEffect>
+    ensures { MatchResult result (λ effect. standing_number effect ≡ number) (λ _. last_effect < number) }
+{
+    match number {
+        0 => Ok(None),
+        1 => Ok(Some(Effect::AssertionFailed)),
+        2 => Ok(Some(Effect::DivisionByZero)),
+        3 => Ok(Some(Effect::IntegerOverflow)),
+        4 => Ok(Some(Effect::InvalidAddress)),
+        5 => Ok(Some(Effect::InvalidOperandStackIndex)),
+        6 => Ok(Some(Effect::InvalidReference)),
+        7 => Ok(Some(Effect::OperandStackUnderflow)),
+        8 => Ok(Some(Effect::OutOfOperators)),
+        9 => Ok(Some(Effect::Return)),
+        10 => Ok(Some(Effect::UnknownIdentifier)),
+        11 => Ok(Some(Effect::Yield)),
+        _ => Err(NoEffect),
     }
 }

@@ -6,5 +6,5 @@ mod effect;
 mod refusal;
 
 pub use compile_error::{CompileError, LONGEST_TEXT};
-pub use effect::{Effect, number_of};
+pub use effect::{Effect, NoEffect, number_of, standing};
 pub use refusal::Refusal;

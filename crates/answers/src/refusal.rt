@@ -2,6 +2,8 @@
 ghost use Rattle.std.specs.Prelude.{◌≡◌};
 ghost use Rattle.answers.specs.Refusals.{refusal_number, refusal_value};
 
+use crate::effect::NoEffect;
+
 /// Why a call was not made, or why a run went no further.
 #[derive(Clone, Copy, PartialEq, Eq, Debug)]
 pub enum Refusal {
@@ -53,5 +55,17 @@ impl Refusal {
             Refusal::OperandStackEmpty => 0,
             Refusal::Absent(place) => place,
         }
+    }
+}
+
+impl From<NoEffect> for Refusal {
+    ghost use Rattle.std.specs.Prelude.{◌≡◌};
+    ghost use Rattle.answers.specs.declared.refusal.Refusal.TheVariants.{Forged};
+
+    ghost from_gives = { λ e r. r ≡ Forged };
+
+    #[inline(always)]
+    fn from(_: NoEffect) -> Refusal {
+        Refusal::Forged
     }
 }

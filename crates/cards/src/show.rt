@@ -1,9 +1,9 @@
 // A card: a text, how many operand words there are, and a list of calls.
 use crate::calls::{Left, Named};
 use eval::{Answer, Call, Eval, call_stack};
-use evaluation::Buffers;
 use listing::{Listing, Quoted};
 use records::{LabelRecord, OperatorRecord, Record};
+use start::Buffers;
 use std::io;
 
 /// The buffers of a card: its operators, its labels, and words of operands, entries and memory.
@@ -21,15 +21,12 @@ const MEMORY_WORDS: usize = 4;
 const BUDGET: u32 = 1_000_000;
 
 fn print_script(rt: &impl Print, eval: &Eval<'_>) -> io::Result<()> {
-    let listing = Listing {
-        counts: eval.counts,
-        script: eval.script,
-    };
+    let tables = eval.tables;
     println!(rt;
         "compile: 0 {} {}",
-        eval.counts.operators, eval.counts.labels
+        tables.operator_count, tables.label_count
     )?;
-    print!(rt; "{listing}")
+    print!(rt; "{}", Listing(tables))
 }
 
 // Each call with its operands, its answer, and next and both stacks as it leaves them.

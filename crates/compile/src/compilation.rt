@@ -1,7 +1,7 @@
 // Compile: a text's records, in tables that the caller lends.
 ghost use Rattle.std.specs.Prelude.{true, ◌≡◌, ◌≤◌, ◌*◌, ◌++◌, IfOk, drop, length};
 ghost use Rattle.stack_assembly.specs.Promise.{Compiles};
-ghost use Rattle.compile.specs.Answers.{compiled_answer};
+ghost use Rattle.compile.specs.Answers.{compilation};
 ghost use Rattle.compile.specs.Private.{HasRoom};
 
 use crate::pass::pass;
@@ -41,7 +41,7 @@ pub fn compile(
     operators: &mut [u32],
     labels: &mut [u32],
 ) -> Result<Counts, CompileError>
-    ensures compiles { Compiles text.now operators.old labels.old (record { answer = compiled_answer result; operators = operators.new; labels = labels.new }) }
+    ensures compiles { Compiles text.now operators.old labels.old (compilation result operators.new labels.new) }
     ensures operators { IfOk result (λ counts. 4 * counts.operators ≤ length operators.new) }
     ensures labels { IfOk result (λ counts. 3 * counts.labels ≤ length labels.new) }
 {

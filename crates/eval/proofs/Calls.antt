@@ -1,7 +1,7 @@
 -- A host's call, by what it does to the machine that is taken out for it and put back.
 use Rattle.std.proofs.Common.{ℕ, ◌+◌, ◌-◌, ◌≡◌, refl, sym, ap, ◌∙◌, arith, true, false, Option, Some, None, Ok}
 use Rattle.stack_assembly.specs.Answer.{Answer, answer, refused as refused_answer, Forged}
-use Rattle.stack_assembly.specs.Script.{Script, Tables, script_in}
+use Rattle.stack_assembly.specs.Script.{Tables, script_in}
 use Rattle.stack_assembly.specs.Machine.{Store, Done}
 use Rattle.stack_assembly.specs.Run.{Call, run_call, cleared, performed}
 use Rattle.stack_assembly.specs.Host as host
@@ -20,7 +20,9 @@ use Rattle.machine.specs.Runs.{MayGoOn}
 use Rattle.machine.proofs.Numbers.{positive}
 use Rattle.eval.specs.declared.eval.Eval.{Eval}
 use Rattle.eval.specs.Answers.{cleared_answer}
-use Rattle.eval.specs.Lends.{lent_of, tables_of, left, Taken, PutBack}
+use Rattle.records.specs.Lent.{tables_of, says}
+use Rattle.records.specs.declared.script.Script as code
+use Rattle.eval.specs.Lends.{lent_of, left, Taken, PutBack}
 
 holds : (t : Tables) (m : Machine) → host.machine_of (left t m) ≡ machine_of m
 unfolding host.machine_of stack_of
@@ -43,10 +45,10 @@ is_made c t m e f =
     let u = rw e at f in
     rw (e, u, holds t m) refl
 
-pub lent_called : {a mid b : Eval} {m n : Machine} → Taken a m mid → (c : Call) → PutBack mid n b → (w : Answer)
-    → record { answer = w; machine = machine_of n } ≡ performed (script_in (tables_of mid)) c (machine_of m) → Called c (lent_of a) w (lent_of b)
+pub lent_called : {a mid b : Eval} {m n : Machine} {s : code.Script} → Taken a m s mid → (c : Call) → PutBack mid n b → (w : Answer)
+    → record { answer = w; machine = machine_of n } ≡ performed (script_in (tables_of mid.tables)) c (machine_of m) → Called c (lent_of a) w (lent_of b)
 lent_called {mid = mid} {m = m} {n} taken c back w did =
-    let t = tables_of mid in
+    let t = tables_of mid.tables in
     ap (λ (l : host.Lent). record { answer = w; after = l }) (back.lent ∙ sym (leaves t n)) ∙ ap (made t) did ∙ sym (is_made c t m taken.lent taken.unforged)
 
 -- the effect that stands is taken away
@@ -62,7 +64,7 @@ none : (e : Option Effect) → standing_number e ≡ 0 → e ≡ None
 none None h = refl
 none (Some x) h = absurd (omega (arith, positive x))
 
-pub none_stands : {a b : Eval} {m : Machine} → Taken a m b → a.state.effect ≡ 0 → m.effect ≡ None
+pub none_stands : {a b : Eval} {m : Machine} {s : code.Script} → Taken a m s b → a.state.effect ≡ 0 → m.effect ≡ None
 none_stands {m = m} t e = none m.effect (sym (ap (λ (l : host.Lent). l.state.effect) t.lent) ∙ e)
 
 -- a run that turned back: what was run ahead, and the call for the rest
@@ -70,13 +72,13 @@ counted_answer : (ended : Ended) (n k : ℕ) → answer (ended_answer ended k).n
 counted_answer (Raised e operator) n k = refl
 counted_answer (Refused r) n k = refl
 
-pub went_on : {a mid turned : Eval} {m n : Machine} {s : Script} (after : Eval) → Taken a m mid → PutBack mid n turned → s ≡ script_in (tables_of mid)
-    → {budget steps : ℕ} → MayGoOn s budget steps m n → forged (lent_of turned) ≡ false
+pub went_on : {a mid turned : Eval} {m n : Machine} {s : code.Script} (after : Eval) → Taken a m s mid → PutBack mid n turned
+    → {budget steps : ℕ} → MayGoOn (says s) budget steps m n → forged (lent_of turned) ≡ false
     → (ended : Ended) (k : ℕ) → Called (run_call (budget - steps)) (lent_of turned) (ended_answer ended k) (lent_of after)
     → Called (run_call budget) (lent_of a) (ended_answer ended (steps + k)) (lent_of after)
 unfolding performed
-went_on {mid = mid} {m = m} {n} after taken back same {budget} {steps} g f ended k rest =
-    let t = tables_of mid in
+went_on {mid = mid} {m = m} {n} after taken back {budget} {steps} g f ended k rest =
+    let t = tables_of mid.tables in
     rw (← counted_answer ended steps k)
     (ap (λ (x : Made). record { answer = answer x.answer.number x.answer.value (steps + x.answer.steps); after = x.after }) (rest ∙ is_made (run_call (budget - steps)) t n back.lent f)
-    ∙ ap (made t) (sym (rw same at g.under_way.run)) ∙ sym (is_made (run_call budget) t m taken.lent taken.unforged))
+    ∙ ap (made t) (sym (rw taken.script at g.under_way.run)) ∙ sym (is_made (run_call budget) t m taken.lent taken.unforged))

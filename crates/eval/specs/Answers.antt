@@ -4,6 +4,8 @@ use Rattle.stack_assembly.specs.Answer.{Answer, answer, refused, number}
 use Rattle.stack_assembly.specs.Run as definition
 use Rattle.answers.specs.declared.effect.Effect.{Effect}
 use Rattle.answers.specs.declared.refusal.Refusal.{Refusal}
+use Rattle.machine.specs.declared.runs.Ran.{Ran}
+use Rattle.machine.specs.Steps.{ended_answer}
 use Rattle.eval.specs.declared.call.Call.{Call}
 use Rattle.eval.specs.declared.call.Call.TheVariants.{Step, Run, Clear, Push, Pop, Read, Write}
 
@@ -22,6 +24,10 @@ abbrev pub cleared_answer : Result (Option (Effect × ℕ)) Refusal → Answer
 cleared_answer (Ok None) = answer 0 0 0
 cleared_answer (Ok (Some e)) = answer (number e.0) e.1 0
 cleared_answer (Err r) = refused r 0
+
+-- a run
+abbrev pub ran_answer : Ran → Answer
+ran_answer r = ended_answer r.ended r.steps
 
 abbrev pub call_of : Call → definition.Call
 call_of Step = definition.step_call

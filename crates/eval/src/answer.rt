@@ -11,10 +11,11 @@ use std::fmt;
 // Three numbers, since the C interface and the programs have them so; the calls themselves answer results.
 /// The number of an effect, from 1 to 11, or of a refusal, from 21 to 31, or 0; the value that goes with it; and the steps that count.
 #[derive(Clone, Copy, PartialEq, Eq, Debug)]
+#[repr(C)]
 pub struct Answer {
     pub number: u32,
-    pub value: usize,
     pub steps: u32,
+    pub value: usize,
 }
 
 impl fmt::Display for Answer {
@@ -146,10 +147,10 @@ impl From<Result<(), Ended>> for Answer {
 /// A run.
 impl From<Ran> for Answer {
     ghost use Rattle.std.specs.Prelude.{◌≡◌};
-    ghost use Rattle.machine.specs.Steps.{ended_answer};
     ghost use Rattle.eval.specs.Lends.{answer_of};
+    ghost use Rattle.eval.specs.Answers.{ran_answer};
 
-    ghost from_gives = { λ r a. answer_of a ≡ ended_answer r.ended r.steps };
+    ghost from_gives = { λ r a. answer_of a ≡ ran_answer r };
 
     #[inline(always)]
     fn from(ran: Ran) -> Answer {

@@ -5,7 +5,8 @@ ghost use Rattle.std.specs.Prelude.{◌≡◌, ◌≤◌, false};
 ghost use Rattle.stack_assembly.specs.Host.{forged};
 ghost use Rattle.stack_assembly.specs.Run.{step_call, run_call};
 ghost use Rattle.stack_assembly.specs.Promise.{Called};
-ghost use Rattle.machine.specs.Steps.{step_answer, ended_answer};
+ghost use Rattle.machine.specs.Steps.{step_answer};
+ghost use Rattle.eval.specs.Answers.{ran_answer};
 ghost use Rattle.eval.specs.Lends.{lent_of, SameLent};
 
 use crate::eval::Eval;
@@ -22,11 +23,8 @@ impl Eval<'_> {
         ensures called { Called step_call (lent_of self.old) (step_answer result) (lent_of self.new) }
         ensures same { SameLent self.old self.new }
     {
-        let mut machine = self.take()?;
-        let mut script = Once {
-            script: self.counted(),
-        };
-        let stepped = machine.step(&mut script);
+        let (script, mut machine) = self.take()?;
+        let stepped = machine.step(&mut Once { script });
         self.put_back(machine);
         stepped
     }
@@ -34,11 +32,11 @@ impl Eval<'_> {
     /// Steps until one raises an effect or is refused, or the budget of steps is used, which is a refusal too. A straight line is looked up, and no more; once
     /// the script turns back, what is looked up is remembered.
     pub fn run(&mut self, budget: u32) -> Ran
-        ensures called { Called (run_call budget) (lent_of self.old) (ended_answer result.ended result.steps) (lent_of self.new) }
+        ensures called { Called (run_call budget) (lent_of self.old) (ran_answer result) (lent_of self.new) }
         ensures same { SameLent self.old self.new }
     {
-        let mut machine = match self.take() {
-            Ok(machine) => machine,
+        let (mut script, mut machine) = match self.take() {
+            Ok(taken) => taken,
             Err(refusal) => {
                 return Ran {
                     ended: Ended::Refused(refusal),
@@ -46,7 +44,6 @@ impl Eval<'_> {
                 };
             }
         };
-        let mut script = self.counted();
         let ahead = machine.run_ahead(&mut script, budget);
         self.put_back(machine);
         match ahead {
@@ -66,14 +63,14 @@ impl Eval<'_> {
     fn run_on(&mut self, budget: u32) -> Ran
         requires whole { forged (lent_of self.old) ≡ false }
         requires effect { self.old.state.effect ≡ 0 }
-        ensures called { Called (run_call budget) (lent_of self.old) (ended_answer result.ended result.steps) (lent_of self.new) }
+        ensures called { Called (run_call budget) (lent_of self.old) (ran_answer result) (lent_of self.new) }
         ensures steps { result.steps ≤ budget }
         ensures same { SameLent self.old self.new }
     {
-        let Ok(mut machine) = self.take() else {
+        let Ok((script, mut machine)) = self.take() else {
             unreachable!();
         };
-        let mut script: Memo<'_, REMEMBERED> = Memo::new(self.counted());
+        let mut script: Memo<'_, REMEMBERED> = Memo::new(script);
         let ran = machine.run(&mut script, budget);
         self.put_back(machine);
         ran

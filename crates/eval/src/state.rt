@@ -2,6 +2,7 @@
 
 /// The state of an evaluation, as its host keeps it between calls: five numbers, which the host may have forged.
 #[derive(Clone, Copy, PartialEq, Eq, Debug)]
+#[repr(C)]
 pub struct State {
     /// The index of the operator that the next step evaluates.
     pub next_operator: u32,

@@ -4,7 +4,8 @@ use Rattle.stack_assembly.specs.Machine.{Store, Outcome, continues, raises, refu
 use Rattle.answers.specs.declared.effect.Effect.{Effect}
 use Rattle.store.specs.declared.stop.Stop.{Stop}
 use Rattle.store.specs.declared.stop.Stop.TheVariants.{Raised, Refused}
-use Rattle.store.specs.Stacks.{stack_of, SameBuffer, SameWords}
+use Rattle.store.specs.Stacks.{stack_of, SameBuffer}
+use Rattle.store.specs.Memory.{SameWords}
 use Rattle.machine.specs.declared.machine.Machine.{Machine}
 
 abbrev pub store_of : Machine → Store

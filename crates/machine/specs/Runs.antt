@@ -1,5 +1,5 @@
 -- Runs, by the definition.
-use Rattle.std.specs.Prelude.{ℕ, ◌+◌, ◌-◌, ◌≡◌, ◌≤◌, None}
+use Rattle.std.specs.Prelude.{ℕ, ◌+◌, ◌-◌, ◌≡◌, ◌≤◌, ◌<◌, None}
 use Rattle.stack_assembly.specs.Script.{Script}
 use Rattle.stack_assembly.specs.Machine.{Done, done}
 use Rattle.stack_assembly.specs.Run.{run}
@@ -25,9 +25,9 @@ pub record UnderWay (s : Script) (budget steps : ℕ) (a b : Machine) : Type 0 w
   pub run : run s budget (machine_of a) ≡ counted steps (run s (budget - steps) (machine_of b))
   pub same : SameBuffers a b
 
--- where it turned back no effect stands, and it may go on
+-- where it turned back no effect stands, and the budget is not used
 pub record MayGoOn (s : Script) (budget made : ℕ) (a b : Machine) : Type 0 where
-  pub steps : made ≤ budget
+  pub left : made < budget
   pub effect : b.effect ≡ None
   pub under_way : UnderWay s budget made a b
 

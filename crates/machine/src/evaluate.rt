@@ -55,8 +55,8 @@ impl Machine<'_> {
     #[inline(always)]
     #[tactic(auto, unfolding(stack_assembly::specs::Step::outcome, stack_assembly::specs::Step::pushed, stack_assembly::specs::Operators::evaluated, word::specs::Word::less, word::specs::Word::at_most, word::specs::Word::shifted_right))]
     pub(crate) fn evaluate<S: Operators>(&mut self, script: &mut S, at: u32) -> Result<(), Stop>
-        ensures comes { Comes (outcome (fetched (S.told script.old) at) (store_of self.old)) result self.old self.new }
-        ensures script { S.told script.new ≡ S.told script.old }
+        ensures comes { Comes (outcome (fetched (S.says script.old) at) (store_of self.old)) result self.old self.new }
+        ensures script { S.says script.new ≡ S.says script.old }
     {
         match script.get_operator(at) {
             Fetched::Integer(value) => Ok(self.operands.push(value)?),

@@ -1,6 +1,8 @@
 // Runs: the operators of a script, one after the other.
 
 ghost use Rattle.std.specs.Prelude.{◌≡◌, ◌+◌, ◌<◌, ◌^◌, false, None};
+ghost use Rattle.answers.specs.declared.refusal.Refusal.TheVariants.{BudgetUsed};
+ghost use Rattle.machine.specs.declared.steps.Ended.TheVariants.{Refused};
 ghost use Rattle.machine.specs.Steps.{counted_by};
 ghost use Rattle.machine.specs.Runs.{Runs, RunsAhead, IsEnded};
 
@@ -20,7 +22,7 @@ pub struct Ran {
 #[derive(Clone, Copy, PartialEq, Eq, Debug)]
 pub enum Ahead {
     Ended(Ran),
-    /// The next operator stands no later than the last; so many steps were made.
+    /// The next operator stands no later than the last, and the budget is not used; so many steps were made.
     TurnedBack(u32),
 }
 
@@ -36,6 +38,17 @@ fn ended(before: u32, ended: Ended) -> Ran
     }
 }
 
+// A run that used its budget, before this operator.
+#[inline(always)]
+fn used(budget: u32, next: u32) -> Ran
+    ensures { result ≡ record { ended = Refused (BudgetUsed next); steps = budget } }
+{
+    Ran {
+        ended: Ended::Refused(Refusal::BudgetUsed(next)),
+        steps: budget,
+    }
+}
+
 impl Machine<'_> {
     // Steps until one ends the run, the budget is used, or, if it is to run only ahead, the next operator stands no later than the last: up to there none is
     // met twice.
@@ -44,8 +57,8 @@ impl Machine<'_> {
     #[inline(always)]
     fn make_steps<S: Operators, const AHEAD: bool>(&mut self, script: &mut S, budget: u32) -> Ahead
         requires { 0 < budget → self.old.effect ≡ None }
-        ensures ran { RunsAhead (S.told script.old) budget result self.old self.new }
-        ensures script { S.told script.new ≡ S.told script.old }
+        ensures ran { RunsAhead (S.says script.old) budget result self.old self.new }
+        ensures script { S.says script.new ≡ S.says script.old }
         ensures ended { AHEAD ≡ false → IsEnded result }
     {
         for step in 0..budget {
@@ -53,22 +66,23 @@ impl Machine<'_> {
             if let Err(end) = self.make_step(script) {
                 return Ahead::Ended(ended(step, end));
             }
+            // Two tests that return, and not one of both: that made each step of a straight line four instructions longer.
             if AHEAD && self.next <= at {
-                return Ahead::TurnedBack(step + 1);
+                if step + 1 < budget {
+                    return Ahead::TurnedBack(step + 1);
+                }
+                return Ahead::Ended(used(budget, self.next));
             }
         }
-        Ahead::Ended(Ran {
-            ended: Ended::Refused(Refusal::BudgetUsed(self.next)),
-            steps: budget,
-        })
+        Ahead::Ended(used(budget, self.next))
     }
 
     /// Steps until one ends the run, or the budget is used.
     #[inline(always)]
     pub fn run<S: Operators>(&mut self, script: &mut S, budget: u32) -> Ran
         requires { self.old.effect ≡ None }
-        ensures ran { Runs (S.told script.old) budget result self.old self.new }
-        ensures script { S.told script.new ≡ S.told script.old }
+        ensures ran { Runs (S.says script.old) budget result self.old self.new }
+        ensures script { S.says script.new ≡ S.says script.old }
     {
         match self.make_steps::<S, false>(script, budget) {
             Ahead::Ended(ran) => ran,
@@ -79,8 +93,8 @@ impl Machine<'_> {
     /// A run, up to where it turns back.
     #[inline(always)]
     pub fn run_ahead<S: Operators>(&mut self, script: &mut S, budget: u32) -> Ahead
-        ensures ran { RunsAhead (S.told script.old) budget result self.old self.new }
-        ensures script { S.told script.new ≡ S.told script.old }
+        ensures ran { RunsAhead (S.says script.old) budget result self.old self.new }
+        ensures script { S.says script.new ≡ S.says script.old }
     {
         if let Some(effect) = self.effect
             && 0 < budget

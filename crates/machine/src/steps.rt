@@ -60,8 +60,8 @@ impl Machine<'_> {
     #[inline(always)]
     pub(crate) fn make_step<S: Operators>(&mut self, script: &mut S) -> Result<(), Ended>
         requires { self.old.effect ≡ None }
-        ensures stepped { Stepped (S.told script.old) result self.old self.new }
-        ensures script { S.told script.new ≡ S.told script.old }
+        ensures stepped { Stepped (S.says script.old) result self.old self.new }
+        ensures script { S.says script.new ≡ S.says script.old }
         ensures effect { IfOk result (λ _. self.new.effect ≡ None) }
     {
         let operator = self.next;
@@ -83,8 +83,8 @@ impl Machine<'_> {
     /// One step. An effect that is raised, or that stood before, stands with its operator; a refused step leaves all as it was.
     #[inline(always)]
     pub fn step<S: Operators>(&mut self, script: &mut S) -> Result<(), Ended>
-        ensures stepped { Stepped (S.told script.old) result self.old self.new }
-        ensures script { S.told script.new ≡ S.told script.old }
+        ensures stepped { Stepped (S.says script.old) result self.old self.new }
+        ensures script { S.says script.new ≡ S.says script.old }
     {
         if let Some(effect) = self.effect {
             return Err(self.stand(effect));

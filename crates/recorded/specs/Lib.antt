@@ -1,2 +1,3 @@
--- What is counted of the cases.
+-- What is counted of the cases, and what they end in.
 pub mod Agreement
+pub mod Ends

@@ -1,11 +1,12 @@
 // A case: what it is played on, its calls, and what these leave.
-ghost use Rattle.std.specs.Prelude.{◌≡◌, ◌<◌, ◌↔◌, IsTrue, OnSome, take, length};
+ghost use Rattle.std.specs.Prelude.{◌<◌, ◌↔◌, IsTrue, OnSome, length};
+ghost use Rattle.recorded.specs.Ends.{EndsAs};
 
 use crate::call;
 use eval::Eval;
-use evaluation::Buffers;
 use fields::List;
 use records::{LabelRecord, OperatorRecord, Record};
+use start::Buffers;
 
 // The greatest sizes of a case: its text in bytes, the buffers in words, the rest in records and calls.
 const TEXT_BYTES: usize = 400;
@@ -46,7 +47,7 @@ struct End<'a> {
 impl End<'_> {
     // A case and an evaluation are two types, so no derive compares them.
     fn is_of(&self, eval: &Eval<'_>) -> bool
-        ensures { IsTrue result ↔ (take eval.now.state.operand_depth eval.now.operand_stack.now ≡ self.now.operands.now) × (take eval.now.state.call_depth eval.now.call_stack.now ≡ self.now.calls.now) × (eval.now.memory.now ≡ self.now.memory.now) }
+        ensures { IsTrue result ↔ EndsAs eval.now self.now }
     {
         eval.operands() == self.operands
             && eval.calls() == self.calls
@@ -133,10 +134,11 @@ impl<'a> Case<'a> {
 
     // As `is_of`: of two types.
     fn has_records_of(&self, eval: &Eval<'_>) -> bool {
-        eval.counts.operators == OperatorRecord::capacity(self.operators)
-            && eval.counts.labels == LabelRecord::capacity(self.labels)
-            && eval.script.operators == self.operators
-            && eval.script.labels == self.labels
+        let tables = eval.tables;
+        tables.operator_count == OperatorRecord::capacity(self.operators)
+            && tables.label_count == LabelRecord::capacity(self.labels)
+            && tables.operators == self.operators
+            && tables.labels == self.labels
     }
 
     fn calls_agree(&self, eval: &mut Eval<'_>) -> bool {

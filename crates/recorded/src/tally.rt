@@ -1,6 +1,6 @@
 // How many cases there are, and how many agree.
 ghost use Rattle.std.specs.Prelude.{◌≡◌, ◌+◌, ◌<◌, ◌≤◌, ◌^◌, cond, None};
-ghost use Rattle.recorded.specs.Agreement.{first_with};
+ghost use Rattle.recorded.specs.Agreement.{first_with, one_if};
 
 use std::fmt;
 
@@ -30,7 +30,7 @@ impl Tally {
     pub(crate) fn with(self, agrees: bool) -> Tally
         requires { self.cases + 1 < 2 ^ 64 }
         ensures cases { result.cases ≡ self.cases + 1 }
-        ensures agreeing { result.agreeing ≡ self.agreeing + cond agrees 1 0 }
+        ensures agreeing { result.agreeing ≡ self.agreeing + one_if agrees }
         ensures first { result.first ≡ first_with self.first (self.cases + 1) agrees }
     {
         let cases = self.cases + 1;

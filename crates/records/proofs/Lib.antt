@@ -1,2 +1,4 @@
 -- What is proved of the records of a table.
-pub mod Tables
+pub mod Counted
+pub mod InTable
+pub mod Sources

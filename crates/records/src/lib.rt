@@ -5,8 +5,13 @@ mod counts;
 mod label;
 mod operator;
 mod record;
+mod script;
+mod source;
+mod tables;
 
 pub use counts::Counts;
 pub use label::LabelRecord;
 pub use operator::{OperatorKind, OperatorRecord};
-pub use record::{Damaged, Record};
+pub use record::{Damaged, OverCapacity, Record};
+pub use script::Script;
+pub use tables::Tables;

@@ -17,7 +17,7 @@ pub enum OperatorKind {
     Reference,
 }
 
-// Numbers too, for `Script::fetch`, which tests the words of a record by them before it reads the record; and the match that reads a kind has them.
+// Numbers too, for a fetch, which tests the words of a record by them before it reads the record; and the match that reads a kind has them.
 impl OperatorKind {
     /// The number of [`OperatorKind::Identifier`].
     pub const IDENTIFIER: u32 = 0;

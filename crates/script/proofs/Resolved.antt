@@ -11,8 +11,8 @@ use Rattle.stack_assembly.specs.Script.{Label, part, damaged_label, label_in, la
 use Rattle.stack_assembly.specs.Step.{Fetched, resolved, damaged, pushes, unresolved}
 use Rattle.records.specs.declared.label.LabelRecord.{LabelRecord}
 use Rattle.records.specs.Records.{label_of, label_at}
-use Rattle.records.proofs.Tables.{no_more, next-label}
-use Rattle.script.specs.Held.{labels_held}
+use Rattle.records.proofs.InTable.{no_more, next-label}
+use Rattle.script.specs.Private.{labels_said}
 
 -- ---- one name
 
@@ -35,16 +35,16 @@ other a b n = by_test (same_bytes a b) refl
 
 module _ (text labels name : List ℕ) where
   abbrev pub left : (i : ℕ) → Fetched
-  left i = resolved text name i (drop i (labels_held labels))
+  left i = resolved text name i (drop i (labels_said labels))
 
   module _ (i : ℕ) where
     pub none_left : length labels / 3 ≤ i → left i ≡ unresolved
-    unfolding resolved labels_held
+    unfolding resolved labels_said
     none_left h = rw (no_more 3 label_in (label_capacity labels) labels i h)
 
     here : (l : Label) → i < length labels / 3 → label_at i labels ≡ l
         → left i ≡ cond (damaged_label text l) (damaged i) (cond (same_bytes (part text l.start l.end) name) (pushes l.operator) (left (i + 1)))
-    unfolding resolved labels_held
+    unfolding resolved labels_said
     here l there is = rw (next-label (label_capacity labels) i labels there, ← is, add-one i)
 
     module _ (there : i < length labels / 3) where

@@ -1,10 +1,11 @@
 // What a run remembers of a script: neither text nor tables change while steps are made.
 ghost use Rattle.std.specs.Prelude.{◌≡◌, ◌<◌};
 ghost use Rattle.stack_assembly.specs.Step.{fetched};
-ghost use Rattle.script.specs.Held.{held};
+ghost use Rattle.records.specs.Lent.{says};
 ghost use Rattle.script.specs.Memory.{Remembers};
 
-use crate::script::Script;
+use crate::fetch::fetch;
+use records::Script;
 use words::{Fetched, Word};
 
 // An operator, and the index that it was fetched at. The others end a run, so they are not kept. An enum of its own: an Option of an index and a `Fetched` could
@@ -22,13 +23,13 @@ pub struct Memo<'a, const N: usize> {
     pub script: Script<'a>,
     known: [Entry; N],
     ghost some: { 0 < N },
-    ghost right: { Remembers (held script) known },
+    ghost right: { Remembers (says script) known },
 }
 
 impl<'a, const N: usize> Memo<'a, N> {
     ghost use Rattle.std.specs.Prelude.{◌≡◌, ◌<◌};
     ghost use Rattle.stack_assembly.specs.Step.{fetched};
-    ghost use Rattle.script.specs.Held.{held};
+    ghost use Rattle.records.specs.Lent.{says};
 
     /// Nothing is remembered at first.
     #[inline(always)]
@@ -46,7 +47,7 @@ impl<'a, const N: usize> Memo<'a, N> {
     #[inline(always)]
     pub fn fetch(&mut self, next: u32) -> Fetched
         ensures script { self.new.script ≡ self.old.script }
-        ensures value { result ≡ fetched (held self.old.script) next }
+        ensures value { result ≡ fetched (says self.old.script) next }
     {
         let entry = self.known[next as usize % N];
         match entry {
@@ -59,9 +60,9 @@ impl<'a, const N: usize> Memo<'a, N> {
     #[tactic(auto, using(crate::proofs::Remembered::remembered))]
     fn fetch_anew(&mut self, next: u32) -> Fetched
         ensures script { self.new.script ≡ self.old.script }
-        ensures value { result ≡ fetched (held self.old.script) next }
+        ensures value { result ≡ fetched (says self.old.script) next }
     {
-        let operator = self.script.fetch(next);
+        let operator = fetch(self.script, next);
         let at = next as usize % N;
         match operator {
             Fetched::Integer(value) => self.known[at] = Entry::Integer { next, value },

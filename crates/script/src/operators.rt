@@ -2,35 +2,36 @@
 ghost use Rattle.stack_assembly.specs.Script as definition;
 ghost use Rattle.stack_assembly.specs.Step.{fetched};
 ghost use Rattle.std.specs.Prelude.{◌≡◌};
-ghost use Rattle.script.specs.Held.{held};
+ghost use Rattle.records.specs.Lent as lent;
 
+use crate::fetch::fetch;
 use crate::memo::Memo;
-use crate::script::Script;
+use records::Script;
 use words::Fetched;
 
 /// Where a step takes its operators from: one script, by their indexes.
 pub trait Operators {
-    ghost told: { Self → definition.Script };
+    ghost says: { Self → definition.Script };
 
     /// The operator at an index.
     fn get_operator(&mut self, at: u32) -> Fetched
-        ensures same { told self.new ≡ told self.old }
-        ensures found { result ≡ fetched (told self.old) at };
+        ensures same { says self.new ≡ says self.old }
+        ensures found { result ≡ fetched (says self.old) at };
 }
 
 // Looked up each time.
 impl<'a> Operators for Script<'a> {
-    ghost told = { held };
+    ghost says = { lent.says };
 
     #[inline(always)]
     fn get_operator(&mut self, at: u32) -> Fetched {
-        self.fetch(at)
+        fetch(*self, at)
     }
 }
 
 // Remembered.
 impl<'a, const N: usize> Operators for Memo<'a, N> {
-    ghost told = { λ m. held m.script };
+    ghost says = { λ m. lent.says m.script };
 
     #[inline(always)]
     fn get_operator(&mut self, at: u32) -> Fetched {
@@ -39,16 +40,17 @@ impl<'a, const N: usize> Operators for Memo<'a, N> {
 }
 
 /// The operators of a single step: a type of its own, so that a step has the evaluator's match to itself.
+// With a `Script` in its place a step call took 35 % more instructions, straight lines 19 to 80 %.
 #[derive(Clone, Copy)]
 pub struct Once<'a> {
     pub script: Script<'a>,
 }
 
 impl<'a> Operators for Once<'a> {
-    ghost told = { λ o. held o.script };
+    ghost says = { λ o. lent.says o.script };
 
     #[inline(always)]
     fn get_operator(&mut self, at: u32) -> Fetched {
-        self.script.fetch(at)
+        fetch(self.script, at)
     }
 }

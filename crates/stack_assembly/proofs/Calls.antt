@@ -1,7 +1,7 @@
 -- What a call on what is lent comes to, where 25 is not answered: what it comes to on the machine, which 25 does not refuse either.
 use Rattle.std.proofs.Common.{ℕ, zero, suc, ◌≤◌, false, ◌∷◌, ◌≡◌, refl, ap, ◌∙◌, arith, length, length-append, replicate}
 use Rattle.std.proofs.lemmas.List.{length-reverse}
-use Rattle.stack_assembly.specs.Answer.{answer, number}
+use Rattle.stack_assembly.specs.Answer.{answer}
 use Rattle.stack_assembly.specs.Script.{Tables, script_in, operator_capacity, label_capacity}
 use Rattle.stack_assembly.specs.Machine.{Stack, depth, Machine}
 use Rattle.stack_assembly.specs.Step.{step}
@@ -23,7 +23,7 @@ pub record Unforged (l : Lent) : Type 0 where
   pub effect : l.state.effect ≤ 11
 
 false_unforged : (l : Lent) → forged l ≡ false → Unforged l
-unfolding forged number
+unfolding forged
 false_unforged l e =
     record {
       operand_depth = grind (arith, e);
@@ -36,7 +36,7 @@ depth-fits : (s : Stack) → depth s ≤ length (buffer_of s)
 depth-fits s = simp (length-append, length-reverse) (omega arith)
 
 lent-unforged : (t : Tables) (m : Machine) → Fits t → Standing m → forged (lent_of t m) ≡ false
-unfolding forged lent_of number
+unfolding forged lent_of
 lent-unforged t m fits h = grind (arith, depth-fits m.store.operands, depth-fits m.store.calls, fits.operators, fits.labels, h)
 
 module _ (l : Lent) (f : forged l ≡ false) where

@@ -2,8 +2,8 @@
 ghost use Rattle.stack_assembly.specs.Evaluator.{NoChoice};
 ghost use Rattle.stack_assembly.specs.Host.{OneToOne};
 ghost use Rattle.stack_assembly.specs.Left.{ReleasedZero, Untouched};
-ghost use Rattle.stack_assembly.specs.Refusals.{Condition1, StepMade};
-ghost use Rattle.stack_assembly.specs.Sizes.{Condition3};
+ghost use Rattle.stack_assembly.specs.Refusals.{RefusalsLeaveAll, StepMade};
+ghost use Rattle.stack_assembly.specs.Sizes.{LargerSizesChangeNothing};
 
 /// Whatever keeps the promises of compile, of a fresh start and of each call does just what the definition does.
 #[tactic(auto, using(crate::proofs::Promises::no_choice))]
@@ -18,14 +18,14 @@ pub fn lent_and_machine_are_one_to_one()
 {}
 
 /// A refused call leaves all that it was lent as it was; a refused run has made the steps that it counts, and no more.
-#[tactic(auto, using(crate::proofs::Refusals::condition1))]
+#[tactic(auto, using(crate::proofs::Refusals::leaves_all))]
 pub fn refusals_leave_all()
-    ensures { Condition1 }
+    ensures { RefusalsLeaveAll }
 {}
 
 /// Larger tables, stacks and budgets change no answer but a limit.
 pub fn larger_sizes_change_nothing()
-    ensures { Condition3 }
+    ensures { LargerSizesChangeNothing }
 {}
 
 /// Released words are zero, up to the greatest depth that a call reaches: so stacks of zeros have zeros above their depths after any list of calls.

@@ -1,21 +1,38 @@
 // Compile, for C.
 ghost use Rattle.stack_assembly.specs.Promise.{Compiles};
-ghost use Rattle.stack_assembly_c.specs.Boundary.{compile_answer_in};
+ghost use Rattle.stack_assembly_c.specs.Boundary.{compilation_of};
 
-use records::Counts;
+/// What compile answers: a number, the value that goes with it, and both counts, which are 0 where the text is refused.
+#[derive(Clone, Copy)]
+#[repr(C)]
+pub struct Compiled {
+    pub number: u32,
+    pub value: usize,
+    pub operator_count: usize,
+    pub label_count: usize,
+}
 
-/// Compiles a text into lent tables; `out` is number, value, and the counts of operators and labels.
+/// Compiles a text into lent tables.
 #[unsafe(no_mangle)]
 pub extern "C" fn stack_assembly_compile(
     text: &[u8],
     operators: &mut [u32],
     labels: &mut [u32],
-    out: &mut [u64; 4],
-)
-    ensures { Compiles text.now operators.old labels.old (record { answer = compile_answer_in out.new; operators = operators.new; labels = labels.new }) }
+) -> Compiled
+    ensures { Compiles text.now operators.old labels.old (compilation_of result operators.new labels.new) }
 {
-    *out = match compile::compile(text, operators, labels) {
-        Ok(Counts { operators, labels }) => [0, operators as u64, operators as u64, labels as u64],
-        Err(error) => [error.number() as u64, error.value() as u64, 0, 0],
-    };
+    match compile::compile(text, operators, labels) {
+        Ok(counts) => Compiled {
+            number: 0,
+            value: counts.operators,
+            operator_count: counts.operators,
+            label_count: counts.labels,
+        },
+        Err(error) => Compiled {
+            number: error.number(),
+            value: error.value(),
+            operator_count: 0,
+            label_count: 0,
+        },
+    }
 }

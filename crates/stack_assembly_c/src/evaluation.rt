@@ -1,160 +1,93 @@
-// The evaluation, for C: a fresh start, one step, steps up to a budget, and the standing effect taken away.
-ghost use Rattle.stack_assembly.specs.Promise.{Starts};
-ghost use Rattle.stack_assembly.specs.Run.{step_call, run_call, clear_call};
-ghost use Rattle.stack_assembly_c.specs.Boundary.{state_in, state_of, tables_of, CalledFromC};
+// The evaluation, for C: a fresh start, and the seven calls.
+ghost use Rattle.stack_assembly.specs.Promise.{Starts, Called};
+ghost use Rattle.stack_assembly.specs.Run.{step_call, run_call, clear_call, push_call, pop_call, read_call, write_call};
+ghost use Rattle.eval.specs.Lends.{state_of, lent_of, answer_of, SameLent};
 
-use crate::out::written;
-use eval::{Eval, State};
-use records::Counts;
-use script::Script;
+use eval::{Answer, Eval, State};
 
-/// A fresh state, whose memory becomes zeros; `out` is the state.
-#[unsafe(no_mangle)]
-pub extern "C" fn stack_assembly_new(memory: &mut [u32], out: &mut [u64; 5])
-    ensures { Starts memory.old (record { state = state_in 0 out.new; memory = memory.new }) }
-{
-    let state = State::new(memory);
-    *out = [
-        state.next_operator as u64,
-        state.operand_depth as u64,
-        state.call_depth as u64,
-        state.effect as u64,
-        state.effect_operator as u64,
-    ];
+// A call on an evaluation of its own, to which the buffers are lent again: its parts then stay in registers, and only the state is written back.
+macro_rules! called {
+    ($eval:ident.$call:ident($($operand:expr),*)) => {{
+        let mut own = Eval {
+            state: $eval.state,
+            tables: $eval.tables,
+            operand_stack: &mut *$eval.operand_stack,
+            call_stack: &mut *$eval.call_stack,
+            memory: &mut *$eval.memory,
+        };
+        let answer: Answer = own.$call($($operand),*).into();
+        $eval.state = own.state;
+        answer
+    }};
 }
 
-/// One step; `out` is number, value, steps, and the state.
+/// A fresh state, whose memory becomes zeros.
 #[unsafe(no_mangle)]
-pub extern "C" fn stack_assembly_step<'a>(
-    next_operator: u32,
-    operand_depth: usize,
-    call_depth: usize,
-    effect: u32,
-    effect_operator: u32,
-    operator_count: usize,
-    label_count: usize,
-    text: &'a [u8],
-    operators: &'a [u32],
-    labels: &'a [u32],
-    operand_stack: &'a mut [u32],
-    call_stack: &'a mut [u32],
-    memory: &'a mut [u32],
-    out: &mut [u64; 8],
-)
-    ensures { CalledFromC step_call (state_of next_operator operand_depth call_depth effect effect_operator) (tables_of operator_count label_count text.now operators.now labels.now) operand_stack.old call_stack.old memory.old out.new operand_stack.new call_stack.new memory.new }
+pub extern "C" fn stack_assembly_new(memory: &mut [u32]) -> State
+    ensures { Starts memory.old (record { state = state_of result; memory = memory.new }) }
 {
-    let mut eval = Eval {
-        state: State {
-            next_operator,
-            operand_depth,
-            call_depth,
-            effect,
-            effect_operator,
-        },
-        counts: Counts {
-            operators: operator_count,
-            labels: label_count,
-        },
-        script: Script {
-            text,
-            operators,
-            labels,
-        },
-        operand_stack,
-        call_stack,
-        memory,
-    };
-    let answer = eval.step().into();
-    *out = written(answer, eval.state);
+    State::new(memory)
 }
 
-/// Steps up to a budget; `out` is number, value, steps, and the state.
+/// One step.
 #[unsafe(no_mangle)]
-pub extern "C" fn stack_assembly_run<'a>(
-    next_operator: u32,
-    operand_depth: usize,
-    call_depth: usize,
-    effect: u32,
-    effect_operator: u32,
-    operator_count: usize,
-    label_count: usize,
-    text: &'a [u8],
-    operators: &'a [u32],
-    labels: &'a [u32],
-    operand_stack: &'a mut [u32],
-    call_stack: &'a mut [u32],
-    memory: &'a mut [u32],
-    budget: u32,
-    out: &mut [u64; 8],
-)
-    ensures { CalledFromC (run_call budget) (state_of next_operator operand_depth call_depth effect effect_operator) (tables_of operator_count label_count text.now operators.now labels.now) operand_stack.old call_stack.old memory.old out.new operand_stack.new call_stack.new memory.new }
+pub extern "C" fn stack_assembly_step(eval: &mut Eval<'_>) -> Answer
+    ensures called { Called step_call (lent_of eval.old) (answer_of result) (lent_of eval.new) }
+    ensures same { SameLent eval.old eval.new }
 {
-    let mut eval = Eval {
-        state: State {
-            next_operator,
-            operand_depth,
-            call_depth,
-            effect,
-            effect_operator,
-        },
-        counts: Counts {
-            operators: operator_count,
-            labels: label_count,
-        },
-        script: Script {
-            text,
-            operators,
-            labels,
-        },
-        operand_stack,
-        call_stack,
-        memory,
-    };
-    let answer = eval.run(budget).into();
-    *out = written(answer, eval.state);
+    called!(eval.step())
 }
 
-/// Takes away the effect that stands; `out` is its number and operator, 0 steps, and the state.
+/// Steps up to a budget.
 #[unsafe(no_mangle)]
-pub extern "C" fn stack_assembly_clear<'a>(
-    next_operator: u32,
-    operand_depth: usize,
-    call_depth: usize,
-    effect: u32,
-    effect_operator: u32,
-    operator_count: usize,
-    label_count: usize,
-    text: &'a [u8],
-    operators: &'a [u32],
-    labels: &'a [u32],
-    operand_stack: &'a mut [u32],
-    call_stack: &'a mut [u32],
-    memory: &'a mut [u32],
-    out: &mut [u64; 8],
-)
-    ensures { CalledFromC clear_call (state_of next_operator operand_depth call_depth effect effect_operator) (tables_of operator_count label_count text.now operators.now labels.now) operand_stack.old call_stack.old memory.old out.new operand_stack.new call_stack.new memory.new }
+pub extern "C" fn stack_assembly_run(eval: &mut Eval<'_>, budget: u32) -> Answer
+    ensures called { Called (run_call budget) (lent_of eval.old) (answer_of result) (lent_of eval.new) }
+    ensures same { SameLent eval.old eval.new }
 {
-    let mut eval = Eval {
-        state: State {
-            next_operator,
-            operand_depth,
-            call_depth,
-            effect,
-            effect_operator,
-        },
-        counts: Counts {
-            operators: operator_count,
-            labels: label_count,
-        },
-        script: Script {
-            text,
-            operators,
-            labels,
-        },
-        operand_stack,
-        call_stack,
-        memory,
-    };
-    let answer = eval.clear_effect().into();
-    *out = written(answer, eval.state);
+    called!(eval.run(budget))
+}
+
+/// Takes away the effect that stands, and answers its number and operator.
+#[unsafe(no_mangle)]
+pub extern "C" fn stack_assembly_clear(eval: &mut Eval<'_>) -> Answer
+    ensures called { Called clear_call (lent_of eval.old) (answer_of result) (lent_of eval.new) }
+    ensures same { SameLent eval.old eval.new }
+{
+    called!(eval.clear_effect())
+}
+
+/// Pushes an operand.
+#[unsafe(no_mangle)]
+pub extern "C" fn stack_assembly_push(eval: &mut Eval<'_>, word: u32) -> Answer
+    ensures called { Called (push_call word) (lent_of eval.old) (answer_of result) (lent_of eval.new) }
+    ensures same { SameLent eval.old eval.new }
+{
+    called!(eval.push(word))
+}
+
+/// Pops an operand, which is the value, and leaves zero in its place.
+#[unsafe(no_mangle)]
+pub extern "C" fn stack_assembly_pop(eval: &mut Eval<'_>) -> Answer
+    ensures called { Called pop_call (lent_of eval.old) (answer_of result) (lent_of eval.new) }
+    ensures same { SameLent eval.old eval.new }
+{
+    called!(eval.pop())
+}
+
+/// The word of the memory at an address, which is the value.
+#[unsafe(no_mangle)]
+pub extern "C" fn stack_assembly_read(eval: &mut Eval<'_>, address: u32) -> Answer
+    ensures called { Called (read_call address) (lent_of eval.old) (answer_of result) (lent_of eval.new) }
+    ensures same { SameLent eval.old eval.new }
+{
+    called!(eval.read(address))
+}
+
+/// Sets the word of the memory at an address.
+#[unsafe(no_mangle)]
+pub extern "C" fn stack_assembly_write(eval: &mut Eval<'_>, address: u32, word: u32) -> Answer
+    ensures called { Called (write_call address word) (lent_of eval.old) (answer_of result) (lent_of eval.new) }
+    ensures same { SameLent eval.old eval.new }
+{
+    called!(eval.write(address, word))
 }

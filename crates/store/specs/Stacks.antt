@@ -5,7 +5,6 @@ use Rattle.stack_assembly.specs.Machine.{depth, has_room, with_word, released}
 use Rattle.stack_assembly.specs.Operators.{without}
 use Rattle.stack_assembly.specs.Host.{stack_in}
 use Rattle.store.specs.declared.stack.Stack.{Stack}
-use Rattle.store.specs.declared.memory.Memory.{Memory}
 use Rattle.answers.specs.declared.refusal.Refusal.{Refusal}
 
 unfoldable pub stack_of : Stack → definition.Stack
@@ -31,9 +30,6 @@ removed i s = cond (ltb i (depth s)) (Some (get_or s.live i 0), released (withou
 -- the same lent buffer
 abbrev pub SameBuffer : Stack → Stack → Type 0
 SameBuffer a b = b.words.ghost_name ≡ a.words.ghost_name
-
-abbrev pub SameWords : Memory → Memory → Type 0
-SameWords a b = b.words.ghost_name ≡ a.words.ghost_name
 
 -- the word of an answer, whatever the error
 abbrev pub found : {E : Type 0} → Result ℕ E → Option ℕ

@@ -28,12 +28,12 @@ pub struct Memory<'a> {
 
 impl<'a> Memory<'a> {
     ghost use Rattle.std.specs.Prelude.{◌≡◌, ◌<◌, ◌≤◌, length, MatchResult, get_or, set};
-    ghost use Rattle.store.specs.Stacks.{SameWords};
+    ghost use Rattle.store.specs.Memory.{Reads, Writes, SameWords};
 
     /// The word at an address.
     #[inline(always)]
     pub fn read(&self, address: u32) -> Result<u32, InvalidAddress>
-        ensures { MatchResult result (λ x. (address < length self.now.words.now) × (get_or self.now.words.now address 0 ≡ x)) (λ _. length self.now.words.now ≤ address) }
+        ensures { Reads address self.now.words.now result }
     {
         self.words
             .get(address as usize)
@@ -45,7 +45,7 @@ impl<'a> Memory<'a> {
     #[inline(always)]
     pub fn write(&mut self, address: u32, value: u32) -> Result<(), InvalidAddress>
         ensures same { SameWords self.old self.new }
-        ensures value { MatchResult result (λ _. (address < length self.old.words.now) × (self.new.words.now ≡ set self.old.words.now address value)) (λ _. (length self.old.words.now ≤ address) × (self.new ≡ self.old)) }
+        ensures value { Writes address value self.old self.new result }
     {
         let address = address as usize;
         if address >= self.words.len() {

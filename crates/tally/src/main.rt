@@ -3,8 +3,8 @@
 
 mod tally;
 
-use evaluation::Buffers;
 use records::{LabelRecord, OperatorRecord, Record};
+use start::Buffers;
 use std::io;
 use std::io::Read;
 use tally::Tally;

@@ -1,6 +1,6 @@
 // A script compiled, and where it is accepted run once, from a fresh start.
 use eval::{Answer, Eval};
-use evaluation::Buffers;
+use start::Buffers;
 use std::fmt;
 
 /// How many steps the run may make.
@@ -15,7 +15,7 @@ pub(crate) struct Tally<'a> {
 
 impl<'a> Tally<'a> {
     ghost use Rattle.tally.specs.Tally.{Tallies};
-    ghost use Rattle.evaluation.specs.Begun.{buffers_of};
+    ghost use Rattle.start.specs.Begun.{buffers_of};
 
     /// Runs the script once. A refused compile stands alone: no step is made, and there are no operands.
     pub(crate) fn of_text(text: &'a [u8], buffers: Buffers<'a>) -> Tally<'a>

@@ -1,7 +1,6 @@
 // What compile makes of a text: its answer, the records, and the source of each operator. The tables are filled with nines at first.
 use listing::{Listing, Quoted, Words};
-use records::{LabelRecord, OperatorRecord, Record};
-use script::Script;
+use records::{LabelRecord, OperatorRecord, Record, Tables};
 use std::io;
 
 /// How many operators and labels a text has at most.
@@ -21,13 +20,14 @@ pub(crate) fn compiled(
         Err(error) => println!(rt; "refused {} {}", error.number(), error.value()),
         Ok(counts) => {
             println!(rt; "accepted {} {}", counts.operators, counts.labels)?;
-            let script = Script {
+            let tables = Tables {
                 text,
                 operators,
                 labels,
+                operator_count: counts.operators,
+                label_count: counts.labels,
             };
-            let listing = Listing { counts, script };
-            print!(rt; "{listing}")
+            print!(rt; "{}", Listing(tables))
         }
     }
 }

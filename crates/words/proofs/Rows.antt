@@ -1,7 +1,7 @@
 -- Each word's name is in the table at one of its two places, and tells the word: computed tests of the 30 rows.
 use Rattle.std.proofs.Common.{◌≡◌, ℕ, ◌<◌, ◌≢◌, arith, Bool, true, false, ◌&&◌, List, [], ◌∷◌, length, get_or, refl, sym, ◌∙◌, Option, Some, None}
 use Rattle.std.proofs.lemmas.Bool.{and_parts}
-use Rattle.std.specs.Prelude.{map, ◌||◌, bit_xor}
+use Rattle.std.specs.Prelude.{◌||◌, bit_xor}
 use Rattle.std.proofs.lemmas.List.{get_or-map}
 use Rattle.base.proofs.Tests.{cond_by, absurd_bool}
 use Rattle.names.specs.Names.{same_bytes}

@@ -1,5 +1,5 @@
 -- A word's number, its row in the code's table, and what is read of the row; where the code looks a name up.
-use Rattle.std.specs.Prelude.{ℕ, Bool, ◌+◌, ◌-◌, ◌*◌, ◌^◌, ◌%◌, ◌≤◌, ◌<◌, ◌≡◌, ◌&&◌, bit_and, eqb, List, [], map, length, get_or, take, drop, Some}
+use Rattle.std.specs.Prelude.{ℕ, Bool, ◌+◌, ◌-◌, ◌*◌, ◌^◌, ◌%◌, ◌≤◌, ◌<◌, ◌≡◌, ◌&&◌, bit_and, eqb, List, [], map, length, get_or, take, drop, Some, None}
 use Rattle.std.specs.Int.{w64, from_le_bytes}
 use Rattle.words.specs.declared.table.TheConstants.{WORDS, PLACES}
 use Rattle.words.specs.declared.table.Row as code
@@ -66,3 +66,7 @@ Begins bytes n w = (1 ≤ n) × (n ≤ 8) × (lookup (take n bytes) words ≡ So
 -- A part of a text is a word's name.
 abbrev pub Spells : (text : List ℕ) (start end : ℕ) → Word → Type 0
 Spells text start end w = (start < end) × (end ≤ length text) × (lookup (take (end - start) (drop start text)) words ≡ Some w)
+
+-- Such a part of from one to eight bytes is no word's name.
+abbrev pub SpellsNone : (text : List ℕ) (start end : ℕ) → Type 0
+SpellsNone text start end = start < end → end ≤ start + 8 → lookup (take (end - start) (drop start text)) words ≡ None

@@ -2,7 +2,7 @@
 ghost use Rattle.std.specs.Prelude.{◌≡◌, ◌≢◌, ◌≤◌, ◌<◌, ◌+◌, ◌-◌, MatchOption, None, length, take, drop};
 ghost use Rattle.std.specs.Bool.{MatchBool};
 ghost use Rattle.words.specs.Words.{words, lookup};
-ghost use Rattle.words.specs.Places.{spelled, number, Begins, Spells};
+ghost use Rattle.words.specs.Places.{spelled, number, Begins, Spells, SpellsNone};
 
 use crate::table::{WORDS, place_of, placed};
 
@@ -87,7 +87,7 @@ impl Word {
     #[inline(always)]
     pub fn short(text: &[u8], start: u32, end: u32) -> Option<Word>
         requires { start + 8 ≤ length text.now }
-        ensures { MatchOption result (start < end → end ≤ start + 8 → lookup (take (end - start) (drop start text.now)) words ≡ None) (Spells text.now start end) }
+        ensures { MatchOption result (SpellsNone text.now start end) (Spells text.now start end) }
     {
         let bytes = text[start as usize..].first_chunk::<8>()?;
         let n = (end as usize).wrapping_sub(start as usize);

@@ -123,7 +123,7 @@ fn step_row() -> Row {
         }),
         engine: Box::new(move || {
             engine.rewind();
-            timed(BLOCK, || assert!((0..BLOCK).all(|_| engine.step() == 0)))
+            timed(BLOCK, || assert!(engine.steps(BLOCK)))
         }),
     }
 }

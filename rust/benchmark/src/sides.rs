@@ -2,7 +2,7 @@
 
 use oracle::eval::peek;
 use oracle::{Eval, Script, number};
-use stack_assembly::boundary::{self, Answer, Lent, State};
+use stack_assembly::boundary::{self, Lent, State, Tables};
 use std::hint::black_box;
 
 /// A script's tables and an evaluation's buffers.
@@ -48,8 +48,8 @@ impl Engine {
     }
 
     pub fn compile(&mut self) {
-        let out = boundary::compile(black_box(&self.text), &mut self.operators, &mut self.labels);
-        self.counts = (out[2] as usize, out[3] as usize);
+        let compiled = boundary::compile(black_box(&self.text), &mut self.operators, &mut self.labels);
+        self.counts = (compiled.operator_count, compiled.label_count);
     }
 
     pub fn fresh(&mut self) {
@@ -64,27 +64,29 @@ impl Engine {
     fn lent(&mut self) -> Lent<'_> {
         Lent {
             state: self.state,
-            operator_count: self.counts.0,
-            label_count: self.counts.1,
-            text: &self.text,
-            operators: &self.operators,
-            labels: &self.labels,
-            operand_stack: &mut self.operand_stack,
-            call_stack: &mut self.call_stack,
-            memory: &mut self.memory,
+            tables: Tables {
+                text: self.text.as_slice().into(),
+                operators: self.operators.as_slice().into(),
+                labels: self.labels.as_slice().into(),
+                operator_count: self.counts.0,
+                label_count: self.counts.1,
+            },
+            operand_stack: self.operand_stack.as_mut_slice().into(),
+            call_stack: self.call_stack.as_mut_slice().into(),
+            memory: self.memory.as_mut_slice().into(),
         }
     }
 
     /// The effect that ends a run, and its steps.
     pub fn run(&mut self) -> (u64, u64) {
-        let out = boundary::run(&mut self.lent(), u32::MAX);
-        (out[0], out[2])
+        let answer = boundary::run(&mut self.lent(), u32::MAX);
+        (answer.number.into(), answer.steps.into())
     }
 
-    pub fn step(&mut self) -> u64 {
-        let out = boundary::step(&mut self.lent());
-        self.state = Answer::from(out).state;
-        out[0]
+    /// Makes so many steps, each by a call of its own on the same evaluation; whether none had an effect.
+    pub fn steps(&mut self, count: u64) -> bool {
+        let mut lent = self.lent();
+        (0..count).all(|_| boundary::step(&mut lent).number == 0)
     }
 }
 

@@ -1,4 +1,4 @@
-//! Compares an engine with the Rust that it replaces, and with a model of document 01.
+//! Compares an engine with the Rust that it replaces, and with a model of the definition.
 
 mod case;
 mod check;
@@ -38,7 +38,7 @@ usage: comparison [--seconds N | --full | --replay CASE | --examples FOLDER | --
   --announce     print each case before it is played; after a crash the last one is it
 
 Columns: cases; answers that are the Rust's own; refusals by size or budget, where the Rust made the same steps and came to
-the same state; answers that only the model of document 01 has (refusals of forged states); steps made in all.";
+the same state; answers that only the model of the definition has (refusals of forged states); steps made in all.";
 
 /// What the command line asks for.
 enum Task {

@@ -1,4 +1,4 @@
-//! The program `tally` by document 01, done by the Rust and by an engine: what the examples are checked with.
+//! The program `tally` as it is defined, done by the Rust and by an engine: what the examples are checked with.
 
 use crate::case::{Case, Sizes};
 use crate::world::World;

@@ -35,7 +35,7 @@ pub enum Call {
     Write { address: u32, word: u32 },
 }
 
-/// Each function answers the words that the boundary writes to `out`.
+/// Each function answers as words what the boundary answers, and the seven calls then the state that they leave.
 pub trait Engine {
     /// Number, value, operator count, label count.
     fn compile(&self, text: &[u8], operators: &mut [u32], labels: &mut [u32]) -> [u64; 4];

@@ -4,7 +4,7 @@ use crate::engine::{Call, Engine, Lent, State};
 use crate::step::step;
 use crate::{beside, compile};
 
-/// An engine that does what document 01 says, and no more.
+/// An engine that does what the definition says, and no more.
 pub struct Model;
 
 /// What a call answers, and the greatest depths of operand and call stack reached in it.

@@ -1,7 +1,7 @@
-//! Document 01 in plain Rust: what compile, the seven calls, the source of an operator and the call stack's list answer and
-//! leave. It is written from the document, uses nothing of the standard library that the document describes (UTF-8, white
-//! space, parsing, shifts), and prefers the document's words to speed. Beyond the document, a word that is released from a stack
-//! becomes zero, so that no word of a stack's buffer is left open.
+//! The definition (docs/DEFINITION.md) in plain Rust: what compile, the seven calls, the source of an operator and the call
+//! stack's list answer and leave. It is written from the definition's sentences, and not from the engine; it uses nothing of the
+//! standard library that they describe (UTF-8, white space, parsing, shifts), and prefers their words to speed. A word that is
+//! released from a stack becomes zero, so that no word of a stack's buffer is left open.
 
 mod beside;
 mod compile;

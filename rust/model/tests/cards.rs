@@ -1,4 +1,4 @@
-//! Document 01's cards 1 to 13, worked by the model, and the words that are left above the depths.
+//! The definition's cards 1 to 13, worked by the model, and the words that are left above the depths.
 
 use model::{Call, Engine, Lent, Model, State};
 

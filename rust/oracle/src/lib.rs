@@ -45,7 +45,7 @@ pub const EFFECTS: [Effect; 11] = [
     Effect::Yield,
 ];
 
-/// The number that document 01 gives to an effect: its place in effect.rs, from 1.
+/// The number that the definition gives to an effect: its place in effect.rs, from 1.
 pub fn number(effect: Effect) -> u32 {
     effect as u32 + 1
 }

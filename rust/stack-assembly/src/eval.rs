@@ -1,10 +1,10 @@
 //! The ongoing evaluation of a script.
 
-use crate::boundary::{self, Answer, Lent, State};
+use crate::boundary::{self, Answer, Lent, State, Tables};
 use crate::buffers::{Buffers, Sizes};
 use crate::effect::Effect;
 use crate::refusal::{Refusal, Stopped};
-use crate::script::{OperatorIndex, Script, Tables};
+use crate::script::{OperatorIndex, Script};
 use crate::value::{Value, Words};
 
 /// # The ongoing evaluation of a script
@@ -67,9 +67,8 @@ impl Eval {
     ///
     /// It gives the same as one with new stacks and a new memory of the same sizes.
     pub fn with_buffers(mut buffers: Buffers) -> Eval {
-        let [next, operands, calls, effect, operator] = boundary::new(&mut buffers.memory);
-        let fresh = Answer::from([0, 0, 0, next, operands, calls, effect, operator]);
-        Eval { state: fresh.state, buffers }
+        let state = boundary::new(&mut buffers.memory);
+        Eval { state, buffers }
     }
 
     /// # End the evaluation, and hand its buffers on
@@ -162,8 +161,8 @@ impl Eval {
     /// that of the call.
     pub fn call_stack(&self) -> impl Iterator<Item = OperatorIndex> {
         (0..self.state.call_depth).map(|place| {
-            let [_, value, _] = boundary::call_stack(self.state.call_depth, &self.buffers.call_stack, place);
-            OperatorIndex::from(value as u32)
+            let answer = boundary::call_stack(self.state.call_depth, &self.buffers.call_stack, place);
+            OperatorIndex::from(answer.value as u32)
         })
     }
 
@@ -189,19 +188,16 @@ impl Eval {
         word_of(self.call(Tables::default(), |lent| boundary::write(lent, address, word))).map(|_| ())
     }
 
-    fn call(&mut self, tables: Tables, call: impl FnOnce(&mut Lent) -> [u64; 8]) -> Answer {
-        let answer = Answer::from(call(&mut Lent {
+    fn call(&mut self, tables: Tables, call: impl FnOnce(&mut Lent) -> Answer) -> Answer {
+        let mut lent = Lent {
             state: self.state,
-            operator_count: tables.operator_count,
-            label_count: tables.label_count,
-            text: tables.text,
-            operators: tables.operators,
-            labels: tables.labels,
-            operand_stack: &mut self.buffers.operand_stack,
-            call_stack: &mut self.buffers.call_stack,
-            memory: &mut self.buffers.memory,
-        }));
-        self.state = answer.state;
+            tables,
+            operand_stack: (&mut *self.buffers.operand_stack).into(),
+            call_stack: (&mut *self.buffers.call_stack).into(),
+            memory: (&mut *self.buffers.memory).into(),
+        };
+        let answer = call(&mut lent);
+        self.state = lent.state;
         answer
     }
 }
@@ -215,5 +211,5 @@ fn word_of(answer: Answer) -> Result<Value, Refusal> {
 }
 
 fn refused(answer: Answer) -> Refusal {
-    Refusal::from_answer(answer.number, answer.value).expect("the engine answers 0, an effect or a refusal")
+    Refusal::from_answer(answer.number, answer.value as u64).expect("the engine answers 0, an effect or a refusal")
 }

@@ -1,6 +1,6 @@
 //! Compiled scripts.
 
-use crate::boundary;
+use crate::boundary::{self, Compiled, Tables};
 use crate::refusal::Refusal;
 use std::fmt;
 use std::ops::Range;
@@ -48,11 +48,11 @@ impl Script {
         let text = text.as_ref();
         let mut operators = vec![0; 4 * operators];
         let mut labels = vec![0; 3 * labels];
-        let [number, value, operator_count, label_count] = boundary::compile(text, &mut operators, &mut labels);
-        if let Some(refusal) = Refusal::from_answer(number as u32, value) {
+        let compiled = boundary::compile(text, &mut operators, &mut labels);
+        if let Some(refusal) = Refusal::from_answer(compiled.number, compiled.value as u64) {
             return Err(refusal);
         }
-        let (operator_count, label_count) = (operator_count as usize, label_count as usize);
+        let Compiled { operator_count, label_count, .. } = compiled;
         operators.truncate(4 * operator_count);
         labels.truncate(3 * label_count);
         Ok(Script { text: text.into(), operators: operators.into(), labels: labels.into(), operator_count, label_count })
@@ -72,10 +72,10 @@ impl Script {
     /// # Ok::<(), stack_assembly::Refusal>(())
     /// ```
     pub fn map_operator_to_source(&self, operator: &OperatorIndex) -> Result<Range<usize>, Refusal> {
-        let [number, value, _, start, end] = boundary::source(self.operator_count, &self.text, &self.operators, operator.value);
-        match Refusal::from_answer(number as u32, value) {
+        let located = boundary::source(&self.tables(), operator.value);
+        match Refusal::from_answer(located.answer.number, located.answer.value as u64) {
             Some(refusal) => Err(refusal),
-            None => Ok(start as usize..end as usize),
+            None => Ok(located.start..located.end),
         }
     }
 
@@ -94,23 +94,13 @@ impl Script {
 
     pub(crate) fn tables(&self) -> Tables<'_> {
         Tables {
-            text: &self.text,
-            operators: &self.operators,
-            labels: &self.labels,
+            text: (&*self.text).into(),
+            operators: (&*self.operators).into(),
+            labels: (&*self.labels).into(),
             operator_count: self.operator_count,
             label_count: self.label_count,
         }
     }
-}
-
-/// What of a script is lent to a call.
-#[derive(Clone, Copy, Default)]
-pub(crate) struct Tables<'a> {
-    pub text: &'a [u8],
-    pub operators: &'a [u32],
-    pub labels: &'a [u32],
-    pub operator_count: usize,
-    pub label_count: usize,
 }
 
 /// # Refers to an operator in a script

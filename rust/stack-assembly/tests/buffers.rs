@@ -1,6 +1,6 @@
 //! What stands above the depths is zero in stacks that were zeroed, and buffers that are handed on have nothing in them.
 
-use stack_assembly::boundary::{self, Answer, Lent, State};
+use stack_assembly::boundary::{self, Answer, Lent, State, Tables};
 use stack_assembly::{Buffers, Eval, Script, Sizes};
 
 /// Scripts that pop, drop and return, and end in effects and refusals.
@@ -24,7 +24,7 @@ fn lists<T: Copy>(calls: &[T]) -> impl Iterator<Item = Vec<T>> {
     (0..calls.len()).map(|first| calls.iter().copied().cycle().skip(first).take(2 * calls.len()).collect())
 }
 
-type LentCall = fn(&mut Lent) -> [u64; 8];
+type LentCall = fn(&mut Lent) -> Answer;
 
 const LENT_CALLS: [LentCall; 11] = [
     |lent| boundary::run(lent, 3),
@@ -43,22 +43,26 @@ const LENT_CALLS: [LentCall; 11] = [
 /// Plays a list in stacks with this word everywhere, and gives the state and both stacks after each call.
 fn played(text: &str, list: &[LentCall], word: u32) -> Vec<(State, [u32; 5], [u32; 2])> {
     let (mut operators, mut labels) = ([0; 64], [0; 9]);
-    let [_, _, operator_count, label_count] = boundary::compile(text.as_bytes(), &mut operators, &mut labels);
+    let compiled = boundary::compile(text.as_bytes(), &mut operators, &mut labels);
+    let tables = Tables {
+        text: text.as_bytes().into(),
+        operators: operators.as_slice().into(),
+        labels: labels.as_slice().into(),
+        operator_count: compiled.operator_count,
+        label_count: compiled.label_count,
+    };
     let (mut operands, mut calls, mut memory) = ([word; 5], [word; 2], [0; 3]);
     let mut state = State::default();
     let mut made = |call: &LentCall| {
-        let out = call(&mut Lent {
+        let mut lent = Lent {
             state,
-            operator_count: operator_count as usize,
-            label_count: label_count as usize,
-            text: text.as_bytes(),
-            operators: &operators,
-            labels: &labels,
-            operand_stack: &mut operands,
-            call_stack: &mut calls,
-            memory: &mut memory,
-        });
-        state = Answer::from(out).state;
+            tables,
+            operand_stack: operands.as_mut_slice().into(),
+            call_stack: calls.as_mut_slice().into(),
+            memory: memory.as_mut_slice().into(),
+        };
+        call(&mut lent);
+        state = lent.state;
         (state, operands, calls)
     };
     list.iter().map(&mut made).collect()

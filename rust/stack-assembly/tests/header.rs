@@ -15,11 +15,23 @@ fn compiler(language: &[&str]) -> Command {
     command
 }
 
+const LANGUAGES: [[&str; 3]; 4] =
+    [["-x", "c", "-std=c99"], ["-x", "c", "-std=c11"], ["-x", "c++", "-std=c++11"], ["-x", "c++", "-std=c++17"]];
+
 #[test]
 fn the_header_is_c_and_cpp() {
-    for language in [["-x", "c", "-std=c99"], ["-x", "c++", "-std=c++11"]] {
+    for language in LANGUAGES {
         let header = folder("../../include/stack_assembly.h");
-        assert!(compiler(&language).arg("-fsyntax-only").arg(header).status().unwrap().success());
+        assert!(compiler(&language).arg("-fsyntax-only").arg(header).status().unwrap().success(), "{language:?}");
+    }
+}
+
+/// The sizes and places that src/ffi.rs has.
+#[test]
+fn the_structs_are_laid_out_as_in_rust() {
+    for language in [["-x", "c", "-std=c11"], ["-x", "c++", "-std=c++17"]] {
+        let layout = folder("tests/c/layout.c");
+        assert!(compiler(&language).arg("-fsyntax-only").arg(layout).status().unwrap().success(), "{language:?}");
     }
 }
 
@@ -27,7 +39,7 @@ fn the_header_is_c_and_cpp() {
 fn printed(source: &Path, name: &str) -> String {
     let library = std::env::var("STACK_ASSEMBLY_LIB").map_or_else(|_| folder("../../target/staticlib"), PathBuf::from);
     let program = Path::new(env!("CARGO_TARGET_TMPDIR")).join(name);
-    let mut build = compiler(&["-std=c99"]);
+    let mut build = compiler(&["-std=c11"]);
     build.arg(source).arg(library.join("libstack_assembly_c.a")).arg("-o").arg(&program);
     assert!(build.status().unwrap().success());
     String::from_utf8(Command::new(program).output().unwrap().stdout).unwrap()

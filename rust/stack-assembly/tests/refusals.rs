@@ -1,6 +1,6 @@
 //! Every refusal, and that nothing is changed by one.
 
-use stack_assembly::boundary::{self, Lent, State};
+use stack_assembly::boundary::{self, Lent, State, Tables};
 use stack_assembly::{Eval, Refusal, Script, Sizes, Stopped};
 
 fn small() -> Eval {
@@ -63,19 +63,11 @@ fn of_the_host() {
 
 /// A state and tables as only a host with buffers of its own can lend them.
 fn stepped(state: State, operators: &[u32]) -> [u64; 3] {
-    let mut lent = Lent {
-        state,
-        operator_count: operators.len() / 4,
-        label_count: 0,
-        text: b"1",
-        operators,
-        labels: &[],
-        operand_stack: &mut [0; 2],
-        call_stack: &mut [],
-        memory: &mut [],
-    };
-    let [number, value, steps, ..] = boundary::step(&mut lent);
-    [number, value, steps]
+    let (text, operator_count, mut operands) = (b"1".as_slice(), operators.len() / 4, [0; 2]);
+    let tables = Tables { text: text.into(), operators: operators.into(), operator_count, ..Tables::default() };
+    let operand_stack = operands.as_mut_slice().into();
+    let answer = boundary::step(&mut Lent { state, tables, operand_stack, ..Lent::default() });
+    [answer.number.into(), answer.value as u64, answer.steps.into()]
 }
 
 #[test]

@@ -1,4 +1,4 @@
-//! Faults of a step and of run, document 01's mistakes and worthless engines among them.
+//! Faults of a step and of run, misreadings of the definition and worthless engines among them.
 
 use super::{Fault, Wrong};
 use model::{Call, Engine, Lent, Model, State};

@@ -7,10 +7,10 @@ use Rattle.eval.proofs.eval.Eval.run.Goals as goal
 
 pub returns-in-Ended-clause-called : goal.returns-in-Ended-clause-called
 unfolding performed
-returns-in-Ended-clause-called c = lent_called c.in-Ok.ensures (run_call c.args.budget) c.put_back.ensures _ (rw c.counted-script.ensures at c.in-Ended.ensures.ran.done)
+returns-in-Ended-clause-called c = lent_called c.in-Ok.ensures (run_call c.args.budget) c.put_back.ensures _ (rw c.in-Ok.ensures.script at c.in-Ended.ensures.ran.done)
 
 pub returns-in-TurnedBack-clause-called : goal.returns-in-TurnedBack-clause-called
 unfolding forged
 returns-in-TurnedBack-clause-called c =
-    went_on c.run_on-rest.new.self c.in-Ok.ensures c.put_back.ensures c.counted-script.ensures c.in-TurnedBack.ensures.ran (grind (arith, common_steps)) c.run_on-rest.result.ended c.run_on-rest.result.steps
+    went_on c.run_on-rest.new.self c.in-Ok.ensures c.put_back.ensures c.in-TurnedBack.ensures.ran (grind (arith, common_steps)) c.run_on-rest.result.ended c.run_on-rest.result.steps
     c.run_on-rest.ensures.called

@@ -4,4 +4,4 @@ use Rattle.eval.proofs.eval.Eval.step.Goals as goal
 
 pub returns-clause-called : goal.returns-clause-called
 unfolding performed
-returns-clause-called c = lent_called c.in_ok-machine.ensures step_call c.put_back.ensures _ (rw c.counted.ensures at c.step-stepped.ensures.stepped.done)
+returns-clause-called c = lent_called c.in_ok-script.ensures step_call c.put_back.ensures _ (rw c.in_ok-script.ensures.script at c.step-stepped.ensures.stepped.done)

@@ -6,10 +6,10 @@ pub returns-in-Err-clause-ran : goal.returns-in-Err-clause-ran
 returns-in-Err-clause-ran g c =
     rw c.ended.ensures (step_stops c.loop-step.invariant.under_way (omega arith) c.in-Err.end (rw c.loop-step.invariant.script at c.in-Err.ensures.stepped))
 
-pub returns-then-self-at-clause-ran : goal.returns-then-self-at-clause-ran
-returns-then-self-at-clause-ran g c =
+pub returns-then-step-budget-clause-ran : goal.returns-then-step-budget-clause-ran
+returns-then-step-budget-clause-ran g c =
     record {
-      steps = omega arith;
+      left = omega arith;
       effect = c.in_default.ensures.effect;
       under_way = step_made c.loop-step.invariant.under_way (omega arith) (rw c.loop-step.invariant.script at c.in_default.ensures.stepped);
     }
@@ -23,4 +23,9 @@ loop-step-preserved g c =
     }
 
 pub returns-clause-ran : goal.returns-clause-ran
-returns-clause-ran g c = budget_ends c.loop-step.invariant.under_way (omega arith)
+returns-clause-ran g c = rw c.used-2.ensures (budget_ends c.loop-step.invariant.under_way (omega arith))
+
+pub returns-then-self-at-clause-ran : goal.returns-then-self-at-clause-ran
+returns-then-self-at-clause-ran g c =
+    rw c.used.ensures
+    (budget_ends (step_made c.loop-step.invariant.under_way (omega arith) (rw c.loop-step.invariant.script at c.in_default.ensures.stepped)) (omega arith))
