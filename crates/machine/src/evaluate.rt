@@ -1,7 +1,5 @@
 // What evaluating an operator does.
-ghost use Rattle.std.specs.Prelude.{ℕ, ◌≡◌, ◌<◌, ◌^◌, Err};
-ghost use Rattle.store.specs.declared.stop.Stop.TheVariants.{Raised};
-ghost use Rattle.answers.specs.declared.effect.Effect.TheVariants as effect;
+ghost use Rattle.std.specs.Prelude.{ℕ, ◌≡◌, ◌<◌, ◌^◌};
 ghost use Rattle.stack_assembly.specs.Operators.{unary, binary};
 ghost use Rattle.stack_assembly.specs.Step.{fetched, outcome};
 ghost use Rattle.machine.specs.Outcomes.{store_of, outcome_of, Rest, Comes};
@@ -11,14 +9,6 @@ use answers::{Effect, Refusal};
 use script::Operators;
 use store::Stop;
 use words::{Fetched, Word};
-
-// Out of line: were it a constant, its parts would be set before the jump to any word.
-#[inline(never)]
-fn yields() -> Result<(), Stop>
-    ensures { result ≡ Err (Raised effect.Yield) }
-{
-    Err(Stop::Raised(Effect::Yield))
-}
 
 impl Machine<'_> {
     // One operand and one result.
@@ -93,7 +83,7 @@ impl Machine<'_> {
                 Word::CallEither => self.call_either(),
                 Word::Return => self.return_(),
                 Word::Assert => self.assert(),
-                Word::Yield => yields(),
+                Word::Yield => self.yield_(),
             },
             Fetched::Past => Err(Stop::Raised(Effect::OutOfOperators)),
             Fetched::Damaged(place) => Err(Stop::Refused(Refusal::Damaged(place))),
