@@ -19,7 +19,7 @@ pub enum Refusal {
     BudgetUsed(u32),
     /// There is no operand to pop.
     OperandStackEmpty,
-    /// There is no such address of the memory, or place of the call stack.
+    /// There is no such address of the memory, index of an operator, or place of the call stack.
     Absent(usize),
 }
 

@@ -33,7 +33,7 @@ fn copy_words(words: &[u32], table: &mut [u32])
 
 /// Compiles a script: writes the records of its operators and labels to the front of the two tables, and answers how many there are.
 ///
-/// A script that is refused leaves both tables as they were, and so does any other word of them.
+/// A script that is refused leaves both tables as they were, and one that is accepted every word of them behind its records.
 // A text and two lent tables, which every caller has apart. Where the tables surely have room, one pass writes. The records of a short script else wait in tables
 // of its own, of a fixed size as there is no heap, until it is known to be accepted (to read it twice took 1.45 times as long); a longer one is read twice.
 pub fn compile(

@@ -64,7 +64,7 @@ left t m =
     }
 
 -- its buffers are those that are lent
-pub record SameWords (e : Eval) (m : Machine) : Type 0 where
+pub record LentWords (e : Eval) (m : Machine) : Type 0 where
   pub operand_stack : m.operands.stack.words.ghost_name ≡ e.operand_stack.ghost_name
   pub call_stack : m.calls.stack.words.ghost_name ≡ e.call_stack.ghost_name
   pub memory : m.memory.words.ghost_name ≡ e.memory.ghost_name
@@ -73,7 +73,7 @@ pub record SameWords (e : Eval) (m : Machine) : Type 0 where
 pub record Taken (a : Eval) (m : Machine) (s : Script) (b : Eval) : Type 0 where
   pub unforged : forged (lent_of a) ≡ false
   pub lent : lent_of a ≡ left (tables_of b.tables) m
-  pub words : SameWords a m
+  pub words : LentWords a m
   pub tables : b.tables ≡ a.tables
   pub script : says s ≡ script_in (tables_of b.tables)
 
@@ -88,5 +88,5 @@ Takes a r b = MatchResult r (λ taken. Taken a taken.1 taken.0 b) (λ refusal. R
 
 pub record PutBack (a : Eval) (m : Machine) (b : Eval) : Type 0 where
   pub lent : lent_of b ≡ left (tables_of a.tables) m
-  pub words : SameWords b m
+  pub words : LentWords b m
   pub tables : b.tables ≡ a.tables

@@ -5,7 +5,7 @@ ghost use Rattle.eval.specs.Answers.{word_answer};
 
 use answers::Refusal;
 
-// The depth and the buffer are apart, as the C interface has them, without an evaluation.
+// Of the depth and the buffer, and not of an evaluation, since no more of one is asked.
 /// The index of the operator that made the call at a place, which is the entry there less 1; place 0 is the top.
 ///
 /// Refused as `Forged` where the depth is more than the buffer has, or the entry is 0, and as `Absent` where there is no such place.

@@ -1,5 +1,5 @@
 // How many cases there are, and how many agree.
-ghost use Rattle.std.specs.Prelude.{◌≡◌, ◌+◌, ◌<◌, ◌≤◌, ◌^◌, cond, None};
+ghost use Rattle.std.specs.Prelude.{◌≡◌, ◌+◌, ◌<◌, ◌≤◌, ◌^◌, None};
 ghost use Rattle.recorded.specs.Agreement.{first_with, one_if};
 
 use std::fmt;

@@ -1,4 +1,5 @@
-//! The records that stand in a script's tables of words: what compile writes, and what a step reads.
+//! What is lent of a script: the records that stand in its tables of words, which compile writes and a step reads, the script of those that count, and the
+//! source of an operator.
 #![tactic(auto)]
 
 mod counts;

@@ -1,4 +1,4 @@
--- What is promised of the stacks, the memory and the effects.
+-- What is promised of the stacks and the memory, and what a division without a result raises.
 pub mod Stacks
 pub mod Memory
 pub mod Stops

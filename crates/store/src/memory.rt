@@ -27,7 +27,6 @@ pub struct Memory<'a> {
 }
 
 impl<'a> Memory<'a> {
-    ghost use Rattle.std.specs.Prelude.{◌≡◌, ◌<◌, ◌≤◌, length, MatchResult, get_or, set};
     ghost use Rattle.store.specs.Memory.{Reads, Writes, SameWords};
 
     /// The word at an address.

@@ -1,5 +1,5 @@
 // The 30 words, and the look-up of a word by its name.
-ghost use Rattle.std.specs.Prelude.{◌≡◌, ◌≢◌, ◌≤◌, ◌<◌, ◌+◌, ◌-◌, MatchOption, None, length, take, drop};
+ghost use Rattle.std.specs.Prelude.{◌≡◌, ◌≢◌, ◌≤◌, ◌<◌, ◌+◌, ◌-◌, MatchOption, None, length, take};
 ghost use Rattle.std.specs.Bool.{MatchBool};
 ghost use Rattle.words.specs.Words.{words, lookup};
 ghost use Rattle.words.specs.Places.{spelled, number, Begins, Spells, SpellsNone};
