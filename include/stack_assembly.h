@@ -1,7 +1,9 @@
 /* The StackAssembly engine for C: compile a script, evaluate it step by step or up to a budget, look at its stacks and memory.
  *
- * Link with libstack_assembly_c.a (rust/staticlib.sh writes it to target/staticlib/). The library allocates
- * nothing, keeps nothing between calls and calls nothing of yours: all that it works on is lent to it for one call.
+ * Link with libstack_assembly_c.a (rust/staticlib.sh writes it to target/staticlib/), on x86-64 Linux, for processors of level
+ * x86-64-v2 and up. The library allocates nothing, keeps nothing between calls and calls nothing of yours: all that it works on is
+ * lent to it for one call. Any calls may run at the same time as long as nothing that one of them writes is lent to another; text
+ * and tables are written by compile alone.
  *
  *     uint32_t operators[4 * 64], labels[3 * 16], operands[32], calls[8], memory[16];
  *     struct stack_assembly_compiled c = stack_assembly_compile(text, text_len, operators, 4 * 64, labels, 3 * 16);
@@ -16,9 +18,10 @@
  *
  * Buffers. You own them all, before, during and after a call, and the structs that name them. A buffer is a pointer and a
  * length, the text's in bytes, all others in words of 32 bits; its length is its capacity. Null with length 0 is an empty buffer.
- * Buffers of one call must not overlap each other, nor the struct that the call is given. Between calls leave text, tables and
- * stacks as the last call left them. Any bytes, words, lengths and numbers may be lent: whatever does not fit together is refused
- * by a number.
+ * It is your part that pointers and lengths are true, that words are aligned, that the pointer to a struct is not null, and that
+ * neither the buffers of one call nor the struct that it is given overlap each other: nothing can test that. Any bytes, words,
+ * counts, depths and other numbers may be lent: what does not fit the buffers is refused by a number. Between calls leave text,
+ * tables and stacks as the last call left them.
  *
  * Numbers. Each call answers one number, and a value with it:
  *
@@ -135,7 +138,9 @@ struct stack_assembly_state stack_assembly_new(uint32_t *memory, size_t memory_l
  * effect stands a step advances the next operator and does no more. Refusals: 26, 27, 28, with steps 0. */
 struct stack_assembly_answer stack_assembly_step(struct stack_assembly_eval *eval);
 
-/* Steps until one gives an effect or a refusal, or until `budget` steps are made, which is 29. */
+/* Steps until one gives an effect or a refusal, or until `budget` steps are made, which is 29; of budget 0 it is so at once. Steps
+ * is how many were made, those before a refusal too. While an effect stands the first step advances the next operator and answers
+ * it. Refusals: 26, 27, 28, 29. */
 struct stack_assembly_answer stack_assembly_run(struct stack_assembly_eval *eval, uint32_t budget);
 
 /* Removes the standing effect, so that the script can go on. The answer is what was removed, effect and operator, or 0 and 0. */

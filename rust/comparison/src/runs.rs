@@ -90,7 +90,7 @@ fn print_table(rows: &[Row], settings: &Settings, took: Duration) {
     println!("seed {}, {:.0} s", settings.seed, took.as_secs_f64());
     println!(
         "{:<22} {:>9} {:>12} {:>10} {:>10} {:>12} {:>11}",
-        "kind", "cases", "the Rust's", "limits", "01 alone", "steps", "differences"
+        "kind", "cases", "the Rust's", "limits", "the model's", "steps", "differences"
     );
     let mut sum = Counts::default();
     for row in rows {

@@ -115,6 +115,14 @@ impl<'a> From<&'a mut [u32]> for BufferMut<'a> {
     }
 }
 
+// SAFETY: it is a `&[T]`, and these are Send and Sync where T is Sync.
+unsafe impl<T: Sync> Send for Buffer<'_, T> {}
+unsafe impl<T: Sync> Sync for Buffer<'_, T> {}
+
+// SAFETY: it is a `&mut [u32]`, which is both.
+unsafe impl Send for BufferMut<'_> {}
+unsafe impl Sync for BufferMut<'_> {}
+
 impl<'a> BufferMut<'a> {
     /// # Safety
     ///

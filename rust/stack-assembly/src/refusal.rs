@@ -3,6 +3,9 @@
 use std::error::Error;
 use std::fmt;
 
+/// How many bytes a text may have.
+pub(crate) const LONGEST_TEXT: usize = 65_535;
+
 /// # Why a call was refused
 ///
 /// A refused call changes nothing. A refused run has made the steps that [`Stopped`] counts, and no more.
@@ -80,7 +83,7 @@ impl Refusal {
             | Refusal::DamagedRecord { place: size }
             | Refusal::OperandStackFull { depth: size }
             | Refusal::CallStackFull { depth: size } => size as u64,
-            Refusal::TextTooLong => 65_535,
+            Refusal::TextTooLong => LONGEST_TEXT as u64,
             Refusal::BudgetUsed { next } => next.into(),
             Refusal::NotThere { place } => place,
             Refusal::ForgedState | Refusal::OperandStackEmpty => 0,

@@ -1,7 +1,7 @@
 //! Compiled scripts.
 
 use crate::boundary::{self, Compiled, Tables};
-use crate::refusal::Refusal;
+use crate::refusal::{LONGEST_TEXT, Refusal};
 use std::fmt;
 use std::ops::Range;
 
@@ -32,7 +32,7 @@ impl Script {
     /// # Compile a script, with as much room for operators and labels as its text needs
     pub fn compile(text: impl AsRef<[u8]>) -> Result<Script, Refusal> {
         let text = text.as_ref();
-        let most = text.len().min(65_535).div_ceil(2);
+        let most = text.len().min(LONGEST_TEXT).div_ceil(2);
         Script::compile_within(text, most, most)
     }
 
@@ -46,8 +46,8 @@ impl Script {
     /// ```
     pub fn compile_within(text: impl AsRef<[u8]>, operators: usize, labels: usize) -> Result<Script, Refusal> {
         let text = text.as_ref();
-        let mut operators = vec![0; 4 * operators];
-        let mut labels = vec![0; 3 * labels];
+        let mut operators = vec![0; operators.saturating_mul(4)];
+        let mut labels = vec![0; labels.saturating_mul(3)];
         let compiled = boundary::compile(text, &mut operators, &mut labels);
         if let Some(refusal) = Refusal::from_answer(compiled.number, compiled.value as u64) {
             return Err(refusal);
