@@ -1,0 +1,5 @@
+-- What is proved of the front of any bytes.
+pub mod Ascii
+pub mod Fronts
+pub mod Eight
+pub mod Turns
