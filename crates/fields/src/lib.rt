@@ -3,6 +3,8 @@
 
 mod list;
 mod numbers;
+mod parts;
 
 pub use list::List;
 pub use numbers::Numbers;
+pub use parts::{after, first, number};
