@@ -5,9 +5,9 @@ ghost use Rattle.compile.specs.Answers.{compilation};
 ghost use Rattle.compile.specs.Private.{HasRoom};
 
 use crate::pass::pass;
+use crate::text::text_by_fronts;
 use answers::{CompileError, LONGEST_TEXT};
 use records::{Counts, LabelRecord, OperatorRecord, Record};
-use utf8::text_of;
 
 // The records of a short script, which wait until it is known to be accepted.
 const WAITING_OPERATORS: usize = 256;
@@ -48,7 +48,7 @@ pub fn compile(
     if LONGEST_TEXT < text.len() {
         return Err(CompileError::TooLong);
     }
-    let text = text_of(text)?;
+    let text = text_by_fronts(text)?;
     if surely_have_room(text, operators, labels) {
         return Ok(pass(text, operators, labels));
     }

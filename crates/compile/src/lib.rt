@@ -4,6 +4,7 @@
 mod compilation;
 mod pass;
 mod table;
+mod text;
 
 pub use answers::{CompileError, LONGEST_TEXT};
 pub use compilation::compile;
