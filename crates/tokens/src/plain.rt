@@ -22,12 +22,14 @@ pub(crate) fn plain_end(bytes: &[u8], start: usize) -> usize
     requires { start ≤ length bytes.now }
     ensures { Plain bytes.now start result }
 {
+    let mut rest = &bytes[start..];
     let mut end = start;
-    while let Some(eight) = bytes[end..].first_chunk() {
+    while let Some((eight, later)) = rest.split_first_chunk() {
         let flags = flags(u64::from_le_bytes(*eight));
         if flags != 0 {
             return end + (flags.trailing_zeros() / 8) as usize;
         }
+        rest = later;
         end += 8;
     }
     end
