@@ -2,7 +2,7 @@
 ghost use Rattle.std.specs.Prelude.{◌≡◌, ◌<◌};
 ghost use Rattle.stack_assembly.specs.Step.{fetched};
 ghost use Rattle.records.specs.Lent.{says};
-ghost use Rattle.script.specs.Memory.{Remembers};
+ghost use Rattle.script.specs.Memory.{place, remembered, Remembers};
 
 use crate::fetch::fetch;
 use records::Script;
@@ -17,24 +17,26 @@ enum Entry {
     Word { next: u32, word: Word },
 }
 
-/// A script, and what a run remembers of it: integers and words fetched so far, each at its index modulo `N`.
+/// A script, and what a run remembers of it in `N` places: the integers and words fetched so far. The first `OWN` operators have a place each; the others share the
+/// rest, by their index modulo `N - OWN`, where the one that was fetched last is remembered.
 #[derive(Drop)]
-pub struct Memo<'a, const N: usize> {
+pub struct Memo<'a, const N: usize, const OWN: usize> {
     pub script: Script<'a>,
     known: [Entry; N],
-    ghost some: { 0 < N },
+    ghost some: { OWN < N },
     ghost right: { Remembers (says script) known },
 }
 
-impl<'a, const N: usize> Memo<'a, N> {
+impl<'a, const N: usize, const OWN: usize> Memo<'a, N, OWN> {
     ghost use Rattle.std.specs.Prelude.{◌≡◌, ◌<◌};
     ghost use Rattle.stack_assembly.specs.Step.{fetched};
     ghost use Rattle.records.specs.Lent.{says};
+    ghost use Rattle.script.specs.Memory.{place, remembered};
 
     /// Nothing is remembered at first.
     #[inline(always)]
-    pub fn new(script: Script<'a>) -> Memo<'a, N>
-        requires { 0 < N }
+    pub fn new(script: Script<'a>) -> Memo<'a, N, OWN>
+        requires { OWN < N }
         ensures { result.script ≡ script.entry }
     {
         Memo {
@@ -43,13 +45,29 @@ impl<'a, const N: usize> Memo<'a, N> {
         }
     }
 
-    /// The operator at an index, from the memo where it is there.
+    // Where an operator is remembered.
+    #[inline(always)]
+    fn place(next: u32) -> usize
+        requires { OWN < N }
+        ensures place { result ≡ place N OWN next }
+        ensures within { result < N }
+    {
+        let next = next as usize;
+        if next < OWN {
+            next
+        } else {
+            OWN + next % (N - OWN)
+        }
+    }
+
+    /// The operator at an index, from the memo where it is there. An integer or a word is remembered then.
     #[inline(always)]
     pub fn fetch(&mut self, next: u32) -> Fetched
         ensures script { self.new.script ≡ self.old.script }
         ensures value { result ≡ fetched (says self.old.script) next }
+        ensures known { self.new.known ≡ remembered result next (place N OWN next) self.old.known }
     {
-        let entry = self.known[next as usize % N];
+        let entry = self.known[Self::place(next)];
         match entry {
             Entry::Integer { next: place, value } if place == next => Fetched::Integer(value),
             Entry::Word { next: place, word } if place == next => Fetched::Word(word),
@@ -57,13 +75,16 @@ impl<'a, const N: usize> Memo<'a, N> {
         }
     }
 
+    // In the loop of a run: by a call, what was first met there took half as much time again.
+    #[inline(always)]
     #[tactic(auto, using(crate::proofs::Remembered::remembered))]
     fn fetch_anew(&mut self, next: u32) -> Fetched
         ensures script { self.new.script ≡ self.old.script }
         ensures value { result ≡ fetched (says self.old.script) next }
+        ensures known { self.new.known ≡ remembered result next (place N OWN next) self.old.known }
     {
         let operator = fetch(self.script, next);
-        let at = next as usize % N;
+        let at = Self::place(next);
         match operator {
             Fetched::Integer(value) => self.known[at] = Entry::Integer { next, value },
             Fetched::Word(word) => self.known[at] = Entry::Word { next, word },

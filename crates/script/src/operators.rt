@@ -30,7 +30,7 @@ impl<'a> Operators for Script<'a> {
 }
 
 // Remembered.
-impl<'a, const N: usize> Operators for Memo<'a, N> {
+impl<'a, const N: usize, const OWN: usize> Operators for Memo<'a, N, OWN> {
     ghost says = { λ m. lent.says m.script };
 
     #[inline(always)]

@@ -3,7 +3,7 @@ use Rattle.std.proofs.lemmas.Grind.{common_steps}
 use Rattle.stack_assembly.specs.Host.{forged}
 use Rattle.stack_assembly.specs.Run.{run_call, performed}
 use Rattle.eval.proofs.Calls.{lent_called, went_on}
-use Rattle.eval.proofs.eval.Eval.run.Goals as goal
+use Rattle.eval.proofs.eval.Eval.run_straight.Goals as goal
 
 pub returns-in-Ended-clause-called : goal.returns-in-Ended-clause-called
 unfolding performed
