@@ -84,7 +84,7 @@ pub(crate) fn token_end(text: &str, start: usize) -> (usize, usize)
     let bytes = text.as_bytes();
     let mut end = plain_end(bytes, start);
     // A loop, since the answer needs the place before and after each character. With `text[end..].chars().next()` and `is_whitespace` for each of them, texts of
-    // other characters than ASCII took 1.8 to 3 times as long.
+    // other characters than ASCII took 2 to 4 times as long.
     while end < bytes.len() {
         if is_blank(bytes[end]) {
             return (end, end + 1);
